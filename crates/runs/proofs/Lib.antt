@@ -1,0 +1,3 @@
+pub mod Ordered
+pub mod Begins
+pub mod Ends

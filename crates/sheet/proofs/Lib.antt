@@ -1,0 +1,7 @@
+pub mod Places
+pub mod Kept
+pub mod Fronts
+pub mod Shape
+pub mod Heads
+pub mod Stepped
+pub mod Lines

@@ -1,0 +1,126 @@
+// The reader of the sheet: from line to line, its place going in and coming back.
+use crate::letters::are_letters;
+use crate::name::read_name;
+use runs::{begins_with, ends_with, same};
+ghost use mathlib.Core.Path.{_≡_};
+ghost use mathlib.Core.Bool.{_||_};
+ghost use Prim.Native.Nat.{_≤_};
+ghost use lib.ListN.{length};
+ghost use Rattle.runs.specs.Runs.{endsIn};
+ghost use Rattle.sheet.specs.Forms.{signI, letterI, syllableNu, isKind, isName, isMeant};
+ghost use Rattle.sheet.specs.Steps.{headOf, stepAt};
+
+// The first letter of the form whose head stands at the front of t, 0 where none does.
+fn head_at(t: &[u8]) -> u8
+    ensures { λ r. ⌜ r ≡ headOf (now (t .entry)) ⌝ }
+{
+    if begins_with(t, b"(w ") {
+        return b'w';
+    }
+    if begins_with(t, b"(l ") {
+        return b'l';
+    }
+    if begins_with(t, b"(k ") {
+        return b'k';
+    }
+    0
+}
+
+// Whether a value is a kind: `post` or `comp`.
+fn is_kind(value: &[u8]) -> bool
+    ensures { λ r. ⌜ r ≡ isKind (now (value .entry)) ⌝ }
+{
+    if same(value, b"post") {
+        return true;
+    }
+    same(value, b"comp")
+}
+
+// Whether a name may be a link: it ends in ि or इ.
+fn is_link(name: &[u8]) -> bool
+    ensures { λ r. ⌜ r ≡ (endsIn signI (now (name .entry)) || endsIn letterI (now (name .entry))) ⌝ }
+{
+    if ends_with(name, b"\xE0\xA4\xBF") {
+        return true;
+    }
+    ends_with(name, b"\xE0\xA4\x87")
+}
+
+// Whether the value is what the first letter asks for; `named` says whether the value is a name.
+fn is_meant(letter: u8, name: &[u8], value: &[u8], named: bool) -> bool
+    requires { ⌜ named ≡ isName (now value) ⌝ }
+    ensures { λ r. ⌜ r ≡ isMeant (record { letter = letter; name = now (name .entry); value = now (value .entry) }) ⌝ }
+{
+    if letter == b'k' {
+        return is_kind(value);
+    }
+    if letter == b'l' {
+        if !is_link(name) {
+            return false;
+        }
+        if !named {
+            return false;
+        }
+        return ends_with(value, b"\xE0\xA4\xA8\xE0\xA5\x81");
+    }
+    if letter == b'w' {
+        return are_letters(value);
+    }
+    false
+}
+
+// A place in the sheet at which a line begins.
+pub struct Cursor {
+    pub at: usize,
+}
+
+// What stands at a cursor: a form, with the ends of its first name and of its value and the next line's cursor; a line that is no
+// form; or the sheet's end.
+pub enum Line {
+    Form {
+        name_end: usize,
+        value_end: usize,
+        next: Cursor,
+    },
+    NoForm,
+    End,
+}
+
+impl Cursor {
+    // The line that begins at the cursor.
+    pub fn step(self, s: &[u8]) -> Line
+        ensures { λ r. ⌜ r ≡ stepAt (now (s .entry)) (self .at) ⌝ }
+    {
+        let at = self.at;
+        if s.len() <= at {
+            return Line::End;
+        }
+        let letter = head_at(&s[at..]);
+        if letter == 0 {
+            return Line::NoForm;
+        }
+        let from = at + 3;
+        let name = read_name(s, from);
+        if !name.good {
+            return Line::NoForm;
+        }
+        let name_end = name.end;
+        if !begins_with(&s[name_end..], b" (") {
+            return Line::NoForm;
+        }
+        let value_from = name_end + 2;
+        let value = read_name(s, value_from);
+        let value_end = value.end;
+        if !begins_with(&s[value_end..], b"))\n") {
+            return Line::NoForm;
+        }
+        if !is_meant(letter, &s[from..name_end], &s[value_from..value_end], value.good) {
+            return Line::NoForm;
+        }
+        Line::Form {
+            name_end,
+            value_end,
+            next: Cursor { at: value_end + 3 },
+        }
+    }
+}

@@ -1,0 +1,49 @@
+// Names of the sheet: SUFFIX, LINK, INFINITIVE and NAME of document 01.
+use text::names::is_forbidden;
+use text::utf8::{State, is_whole, next};
+ghost use mathlib.Core.Path.{_≡_};
+ghost use Prim.Native.Nat.{_+_, _≤_};
+ghost use lib.ListN.{length, drop};
+ghost use mathlib.Core.Bool.{_&&_};
+ghost use lib.Dec.{ltb, leb};
+ghost use Rattle.text.specs.Utf8.{whole};
+ghost use Rattle.text.specs.Owes.{owedOf};
+ghost use Rattle.text.specs.Names.{nameRun};
+ghost use Rattle.sheet.specs.Forms.{front, isName};
+
+// The bytes up to the first one that no name holds: where they end, and whether they are a name.
+pub struct NameRead {
+    pub end: usize,
+    pub good: bool,
+}
+
+// Whether so many bytes, read up to this state, are a name: 1 to 210 of them, whole UTF-8.
+fn named(len: usize, state: State) -> bool
+    ensures { λ r. ⌜ r ≡ (ltb 0 len && leb len 210 && whole (owedOf state)) ⌝ }
+{
+    if len == 0 {
+        return false;
+    }
+    if 210 < len {
+        return false;
+    }
+    is_whole(state)
+}
+
+// Reads the name that begins at `from`.
+pub fn read_name(s: &[u8], from: usize) -> NameRead
+    requires { ⌜ from ≤ length (now s) ⌝ }
+    ensures { λ r. ⌜ (r .end ≡ from + nameRun (drop from (now (s .entry)))) × (r .end ≤ length (now (s .entry))) × (r .good ≡ isName (front (drop from (now (s .entry))))) ⌝ }
+{
+    let mut state = State::Nothing;
+    let mut i = from;
+    while i < s.len() {
+        let b = s[i];
+        if is_forbidden(b) {
+            return NameRead { end: i, good: named(i - from, state) };
+        }
+        state = next(state, b);
+        i += 1;
+    }
+    NameRead { end: i, good: named(i - from, state) }
+}

@@ -1,0 +1,85 @@
+//! A copy of the workspace and of docs/src below target/slips, where slips are planted.
+
+use crate::slip::Slip;
+use blocks::Case;
+use std::fs::{self, File};
+use std::io::{self, BufWriter};
+use std::path::{Path, PathBuf};
+use std::process::{Command, Stdio};
+
+pub struct Copy {
+    root: PathBuf,
+}
+
+impl Copy {
+    pub fn make() -> io::Result<Self> {
+        let oracle = Path::new(env!("CARGO_MANIFEST_DIR")).join("..").canonicalize()?;
+        let root = oracle.join("target/slips");
+        for part in ["docs", "oracle"] {
+            if root.join(part).exists() {
+                fs::remove_dir_all(root.join(part))?;
+            }
+        }
+        copy_folder(&oracle.join("../docs/src"), &root.join("docs/src"))?;
+        copy_folder(&oracle, &root.join("oracle"))?;
+        Ok(Copy { root })
+    }
+
+    pub fn put_cases(&self, cases: &[Case]) -> io::Result<()> {
+        let mut out = BufWriter::new(File::create(self.root.join("cases"))?);
+        cases.iter().try_for_each(|case| blocks::write_case(&mut out, case))
+    }
+
+    /// What the oracle with the slip writes for the cases.
+    pub fn answers_with(&self, slip: &Slip) -> io::Result<Vec<u8>> {
+        let before = self.plant(slip)?;
+        let built = Command::new(env!("CARGO"))
+            .args(["build", "--release", "--offline", "--quiet", "-p", "answers", "--bin", "oracle"])
+            .current_dir(self.root.join("oracle"))
+            .env("CARGO_TARGET_DIR", self.root.join("target"))
+            .env("RUSTFLAGS", "--cap-lints allow")
+            .status()?;
+        assert!(built.success(), "{}: the copy does not build", slip.name);
+        for (path, text) in before {
+            fs::write(path, text)?;
+        }
+        let output = Command::new(self.root.join("target/release/oracle"))
+            .stdin(File::open(self.root.join("cases"))?)
+            .stderr(Stdio::null())
+            .output()?;
+        Ok(output.stdout)
+    }
+
+    /// Makes the slip's edits and hands back the files as they were.
+    fn plant(&self, slip: &Slip) -> io::Result<Vec<(PathBuf, String)>> {
+        let mut before: Vec<(PathBuf, String)> = Vec::new();
+        for edit in &slip.edits {
+            let path = self.root.join(edit.file);
+            let text = fs::read_to_string(&path)?;
+            let times = text.matches(edit.old).count();
+            assert_eq!(times, 1, "{}: {:?} stands {times} times in {}", slip.name, edit.old, edit.file);
+            fs::write(&path, text.replacen(edit.old, edit.new, 1))?;
+            if !before.iter().any(|(known, _)| *known == path) {
+                before.push((path, text));
+            }
+        }
+        Ok(before)
+    }
+}
+
+fn copy_folder(from: &Path, to: &Path) -> io::Result<()> {
+    fs::create_dir_all(to)?;
+    for entry in fs::read_dir(from)? {
+        let entry = entry?;
+        let name = entry.file_name();
+        if name == "target" {
+            continue;
+        }
+        if entry.file_type()?.is_dir() {
+            copy_folder(&entry.path(), &to.join(&name))?;
+        } else {
+            fs::copy(entry.path(), to.join(&name))?;
+        }
+    }
+    Ok(())
+}
