@@ -38,29 +38,15 @@ const PATCHES: &[Patch] = &[
 ",
     },
     // Visibility alone: the generator draws words from the source's own tables.
-    Patch {
-        module: "tables",
-        old: "\nstatic ORIGIN_TABLE: ",
-        new: "\npub static ORIGIN_TABLE: ",
-    },
-    Patch {
-        module: "origin",
-        old: "\nconst STRIP_SUFFIXES: ",
-        new: "\npub const STRIP_SUFFIXES: ",
-    },
+    Patch { module: "tables", old: "\nstatic ORIGIN_TABLE: ", new: "\npub static ORIGIN_TABLE: " },
+    Patch { module: "origin", old: "\nconst STRIP_SUFFIXES: ", new: "\npub const STRIP_SUFFIXES: " },
 ];
 
 /// Inventories that the source embeds and that are not in docs/src: the header row its parser
 /// asks for, and no rows, since the sheet takes their place.
 const INVENTORIES: &[(&str, &str)] = &[
-    (
-        "verb_linking_forms.tsv",
-        "linking_form\tinfinitive\tsource\treview_status\n",
-    ),
-    (
-        "relational_suffixes.tsv",
-        "form\tkind\tsource\treview_status\n",
-    ),
+    ("verb_linking_forms.tsv", "linking_form\tinfinitive\tsource\treview_status\n"),
+    ("relational_suffixes.tsv", "form\tkind\tsource\treview_status\n"),
 ];
 
 fn main() {
@@ -76,8 +62,7 @@ fn main() {
         let from = source.join(format!("{module}.rs"));
         let to = target.join(format!("{module}.rs"));
         println!("cargo:rerun-if-changed={}", from.display());
-        let text = fs::read_to_string(&from)
-            .unwrap_or_else(|error| panic!("{}: {error}", from.display()));
+        let text = fs::read_to_string(&from).unwrap_or_else(|error| panic!("{}: {error}", from.display()));
         fs::write(&to, patched(module, text)).unwrap();
         // The parsers of the two inventories stay in the source, unused.
         modules.push_str(&format!("#[allow(dead_code)]\n#[path = {to:?}]\npub mod {module};\n"));
@@ -87,14 +72,11 @@ fn main() {
 }
 
 fn patched(module: &str, text: String) -> String {
-    PATCHES
-        .iter()
-        .filter(|patch| patch.module == module)
-        .fold(text, |text, patch| {
-            let times = text.matches(patch.old).count();
-            assert_eq!(times, 1, "{module}.rs: patch {:?} stands {times} times", patch.old);
-            text.replacen(patch.old, patch.new, 1)
-        })
+    PATCHES.iter().filter(|patch| patch.module == module).fold(text, |text, patch| {
+        let times = text.matches(patch.old).count();
+        assert_eq!(times, 1, "{module}.rs: patch {:?} stands {times} times", patch.old);
+        text.replacen(patch.old, patch.new, 1)
+    })
 }
 
 fn lay_inventories(folder: &Path) {

@@ -12,7 +12,11 @@ use lib.Dec.{ltb, leb}
 use Rattle.runs.specs.Runs.{pick}
 use Rattle.text.specs.Utf8.{Owed, owes, run, whole, isUtf8, after}
 use Rattle.text.specs.Names.{forbidden, nameRun, holdsForbidden}
+use Rattle.text.specs.Utf8.{from-to, tail, within, opened, utf8Char}
+use Rattle.text.proofs.Ranges.{inside}
 use Rattle.sheet.specs.Forms.{front, isName}
+use Rattle.sheet.specs.Passing.{Three, Passed}
+use borrow.Author.Tests.{lt-leb, ne-eqb}
 
 -- a run's first byte, forbidden or not
 module _ (b : ℕ) (t : List ℕ) where
@@ -81,3 +85,52 @@ module _ (s : List ℕ) (i : ℕ) where
   read-done from o f z n q =
       let l : length (front (drop from s)) ≡ i - from = front-length (drop from s) ∙ omega arith in
       rw (l, front-plain (drop from s), q, z) (sym (and-true _))
+
+-- a byte from 80 on may stand in a name
+high-plain : (b : ℕ) → 0x80 ≤ b → forbidden b ≡ false
+unfolding forbidden
+high-plain b h = rw (lt-leb b 0x20 (omega arith), ne-eqb b 0x28 (λ e. omega arith), ne-eqb b 0x29 (λ e. omega arith), ne-eqb b 0x7F (λ e. omega arith))
+
+-- a three-byte character at i is passed at one go: it begins with E0, and its tails lie in their ranges
+module _ (s : List ℕ) (i : ℕ) (t : Three s i) where
+  one-on : (k : ℕ) → k < length s → 0x80 ≤ getD s k 0 → (k + nameRun (drop k s) ≡ k + 1 + nameRun (drop (k + 1) s))
+  one-on k h b = let g = goes-on s k h (high-plain _ b) in omega arith
+
+  first-owed : owes (from-to 0xA0 0xBF ∷ tail ∷ []) ≡ after (owes []) (getD s i 0)
+  unfolding after opened utf8Char within
+  first-owed = rw (t .first)
+
+  second-owed : owes (tail ∷ []) ≡ after (owes (from-to 0xA0 0xBF ∷ tail ∷ [])) (getD s (i + 1) 0)
+  unfolding after
+  second-owed = rw (inside (from-to 0xA0 0xBF) _ (t .second-low) (t .second-high))
+
+  third-owed : owes [] ≡ after (owes (tail ∷ [])) (getD s (i + 2) 0)
+  unfolding after
+  third-owed = rw (inside tail _ (t .third-low) (t .third-high))
+
+  second-place : i + 1 + 1 ≡ i + 2
+  second-place = omega arith
+
+  third-place : i + 2 + 1 ≡ i + 3
+  third-place = omega arith
+
+  three-counted : i + 3 + nameRun (drop (i + 3) s) ≡ i + nameRun (drop i s)
+  three-counted =
+      sym (one-on i (omega (arith, t .room)) (omega (arith, t .first))
+      ∙ one-on (i + 1) (omega (arith, t .room)) (omega (arith, t .second-low)) ∙ ap (λ (k : ℕ). k + nameRun (drop k s)) second-place
+      ∙ one-on (i + 2) (omega (arith, t .room)) (t .third-low) ∙ ap (λ (k : ℕ). k + nameRun (drop k s)) third-place)
+
+  three-owed : run (owes []) (front (drop i s)) ≡ run (owes []) (front (drop (i + 3) s))
+  three-owed =
+      owed-on s i _ _ (omega (arith, t .room)) (high-plain _ (omega (arith, t .first))) first-owed
+      ∙ owed-on s (i + 1) _ _ (omega (arith, t .room)) (high-plain _ (omega (arith, t .second-low))) second-owed
+      ∙ ap (λ (k : ℕ). run (owes (tail ∷ [])) (front (drop k s))) second-place
+      ∙ owed-on s (i + 2) _ _ (omega (arith, t .room)) (high-plain _ (t .third-low)) third-owed
+      ∙ ap (λ (k : ℕ). run (owes []) (front (drop k s))) third-place
+
+  -- and what was passed before it stays so
+  pub passed-on : (a : ℕ) → Passed s a i → Passed s a (i + 3)
+  passed-on a p = record { ahead = omega (arith, p .ahead); inside = t .room; counted = three-counted ∙ p .counted; owed = p .owed ∙ three-owed }
+
+pub passed-none : (s : List ℕ) (a : ℕ) → a ≤ length s → Passed s a a
+passed-none s a h = record { ahead = omega arith; inside = h; counted = refl; owed = refl }

@@ -5,3 +5,4 @@ pub mod Shape
 pub mod Heads
 pub mod Stepped
 pub mod Lines
+pub mod Faults

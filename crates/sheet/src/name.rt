@@ -4,12 +4,13 @@ use text::utf8::{State, is_whole, next};
 ghost use mathlib.Core.Path.{_≡_};
 ghost use Prim.Native.Nat.{_+_, _≤_};
 ghost use lib.ListN.{length, drop};
-ghost use mathlib.Core.Bool.{_&&_};
+ghost use mathlib.Core.Bool.{true, _&&_};
 ghost use lib.Dec.{ltb, leb};
 ghost use Rattle.text.specs.Utf8.{whole};
 ghost use Rattle.text.specs.Owes.{owedOf};
 ghost use Rattle.text.specs.Names.{nameRun};
 ghost use Rattle.sheet.specs.Forms.{front, isName};
+ghost use Rattle.sheet.specs.Passing.{Three, Passed};
 
 // The bytes up to the first one that no name holds: where they end, and whether they are a name.
 pub struct NameRead {
@@ -30,13 +31,48 @@ fn named(len: usize, state: State) -> bool
     is_whole(state)
 }
 
+// Whether a character of three bytes whose first is E0 stands at i, as every letter of Devanagari does.
+fn three_at(s: &[u8], i: usize) -> bool
+    requires { ⌜ i ≤ length (now s) ⌝ }
+    ensures { λ r. ⌜ (r ≡ true → Three (now (s .entry)) i) ⌝ }
+{
+    if s.len() - i < 3 {
+        return false;
+    }
+    if s[i] != 0xE0 {
+        return false;
+    }
+    if s[i + 1] < 0xA0 {
+        return false;
+    }
+    if 0xBF < s[i + 1] {
+        return false;
+    }
+    if s[i + 2] < 0x80 {
+        return false;
+    }
+    s[i + 2] <= 0xBF
+}
+
+// The place after the run of such characters that begins at `from`. It saves their states: most names are such a run.
+fn skip_threes(s: &[u8], from: usize) -> usize
+    requires { ⌜ from ≤ length (now s) ⌝ }
+    ensures { λ r. ⌜ Passed (now (s .entry)) from r ⌝ }
+{
+    let mut i = from;
+    while three_at(s, i) {
+        i += 3;
+    }
+    i
+}
+
 // Reads the name that begins at `from`.
 pub fn read_name(s: &[u8], from: usize) -> NameRead
     requires { ⌜ from ≤ length (now s) ⌝ }
     ensures { λ r. ⌜ (r .end ≡ from + nameRun (drop from (now (s .entry)))) × (r .end ≤ length (now (s .entry))) × (r .good ≡ isName (front (drop from (now (s .entry))))) ⌝ }
 {
     let mut state = State::Nothing;
-    let mut i = from;
+    let mut i = skip_threes(s, from);
     while i < s.len() {
         let b = s[i];
         if is_forbidden(b) {

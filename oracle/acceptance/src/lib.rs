@@ -62,10 +62,7 @@ pub fn check_sheet(sheet: &[u8]) -> Result<Vec<Form<'_>>, Refusal> {
     let mut forms: Vec<Form> = Vec::new();
     let mut start = 0;
     for stretch in sheet.split_inclusive(|&byte| byte == 0x0A) {
-        let form = stretch
-            .strip_suffix(b"\n")
-            .and_then(Form::of_line)
-            .ok_or(Refusal::at(5, start))?;
+        let form = stretch.strip_suffix(b"\n").and_then(Form::of_line).ok_or(Refusal::at(5, start))?;
         if forms.last().is_some_and(|before| !before.stands_below(&form)) {
             return Err(Refusal::at(6, start));
         }

@@ -13,15 +13,8 @@ pub fn refused(refusal: Refusal) -> String {
 pub fn all(word: &str) -> String {
     let readings = shabda::analyze_affixes(word);
     let candidates = shabda::lookup_root_candidates(word);
-    [
-        list(&readings),
-        supported(&readings),
-        roots(&candidates),
-        decomposition(word),
-        progressive(word),
-        origin(word),
-    ]
-    .concat()
+    [list(&readings), supported(&readings), roots(&candidates), decomposition(word), progressive(word), origin(word)]
+        .concat()
 }
 
 /// Document 01's listing, or `(refused 7)`.
@@ -133,11 +126,7 @@ fn origin(word: &str) -> String {
         OriginSource::Heuristic => "heuristic",
         OriginSource::Unknown => "unknown",
     };
-    format!(
-        "origin {} {source} {:08X}\n",
-        tag(decision.origin),
-        decision.confidence.to_bits()
-    )
+    format!("origin {} {source} {:08X}\n", tag(decision.origin), decision.confidence.to_bits())
 }
 
 /// A count and the labels, each after a space.

@@ -39,18 +39,12 @@ fn a_headword_without_tag_stops_the_search() {
 #[test]
 fn candidates_take_every_remainder() {
     let sheet = ["(w घर (w))", "(w घरल (w))"];
-    assert_eq!(
-        lines("घरले", &sheet, "candidate "),
-        ["candidate घरल w d 129 0 1 ले", "candidate घर w d 129 0 1 ले"]
-    );
+    assert_eq!(lines("घरले", &sheet, "candidate "), ["candidate घरल w d 129 0 1 ले", "candidate घर w d 129 0 1 ले"]);
 }
 
 #[test]
 fn what_stands_after_the_prefix_need_not_be_known() {
-    assert_eq!(
-        lines("प्रमानवता", &["(w मानव (w))"], "candidate "),
-        ["candidate मानव w d 154 1 प्र 1 ता"]
-    );
+    assert_eq!(lines("प्रमानवता", &["(w मानव (w))"], "candidate "), ["candidate मानव w d 154 1 प्र 1 ता"]);
     assert_eq!(line("प्रमानवता", &["(w मानव (w))"], "decomposition"), "decomposition प्रमानवता d 0 0");
 }
 
@@ -69,13 +63,7 @@ fn sixty_is_given_once() {
 
 #[test]
 fn a_headword_comes_first_among_candidates_of_equal_score() {
-    let sheet = [
-        "(w प्रमानवीको (h))",
-        "(w मानव (w))",
-        "(w मानवी (w))",
-        "(w मानवीको (w))",
-        "(w मानवीकोता (w))",
-    ];
+    let sheet = ["(w प्रमानवीको (h))", "(w मानव (w))", "(w मानवी (w))", "(w मानवीको (w))", "(w मानवीकोता (w))"];
     let found = lines("प्रमानवीकोता", &sheet, "candidate ");
     assert_eq!(found[0], "candidate प्रमानवीको h d 187 0 1 ता");
     assert_eq!(found[1], "candidate मानव w d 187 1 प्र 3 ता को ई");

@@ -48,10 +48,7 @@ fn a_link_line_that_fails() {
 
 #[test]
 fn decompose_strips_two_suffixes() {
-    assert_eq!(
-        line("घरकोता", &["(w घर (w))", "(w घरको (w))"], "decomposition"),
-        "decomposition घर d 0 2 ता को"
-    );
+    assert_eq!(line("घरकोता", &["(w घर (w))", "(w घरको (w))"], "decomposition"), "decomposition घर d 0 2 ता को");
 }
 
 #[test]

@@ -1,7 +1,8 @@
 //! The classes of cases. Each makes a word and a sheet that reach one family of rules.
 
-use crate::damage::{LINE_DAMAGES, any_letters, damage_text, forbidden_byte};
+use crate::damage::{INFINITIVES, LINE_DAMAGES, LINK_NAMES, any_letters, damage_text, forbidden_byte};
 use crate::lines::Lines;
+use crate::pieces::pieces;
 use crate::random::Random;
 use crate::{sheets, texts, words};
 use acceptance::{SHEET_LIMIT, WORD_LIMIT};
@@ -25,23 +26,23 @@ pub const CLASSES: &[Class] = &[
     class("shared-letter", 14, |random| asked(random, words::shared_letters)),
     class("two-row-prefix", 12, |random| asked(random, words::two_row_prefix)),
     class("stacked-prefixes", 16, |random| asked(random, words::stacked_prefixes)),
-    class("short-after-prefix", 12, |random| asked(random, words::short_after_prefix)),
+    class("short-after-prefix", 12, |random| known(random, words::short_after_prefix, every_piece)),
     class("prefix-in-prefix", 16, |random| asked(random, words::prefix_in_prefix)),
     class("rank-tie", 20, rank_tie),
     class("candidate-tie", 8, candidate_tie),
     class("progressive", 24, |random| asked(random, words::progressive)),
     class("affixed-progressive", 20, |random| asked(random, words::affixed_progressive)),
-    class("pronoun", 14, |random| asked(random, words::pronoun)),
+    class("pronoun", 14, |random| known(random, words::pronoun, sheets::pronouns)),
     class("derivation", 22, |random| asked(random, words::derivation)),
     class("nested-suffix", 8, |random| asked(random, words::nested_suffix)),
     class("origin-table", 12, |random| asked(random, words::table_word)),
-    class("origin-stripped", 14, |random| asked(random, words::stripped_origin)),
+    class("origin-stripped", 16, |random| known(random, words::stripped_origin, sheets::tags)),
     class("origin-mark", 20, origin_mark),
     class("joiner", 6, |random| asked(random, words::joiners)),
     class("stranger", 8, |random| asked(random, words::strangers)),
     class("bare-text", 8, |random| asked(random, words::bare_text)),
     class("any-letters", 8, |random| asked(random, words::any_letters)),
-    class("many-readings", 10, many_readings),
+    class("many-readings", 12, many_readings),
     class("kind-line", 6, kind_line),
     class("lookalike", 6, lookalike),
     class("sheet-of-another-word", 3, another_sheet),
@@ -52,7 +53,8 @@ pub const CLASSES: &[Class] = &[
     class("word-forbidden", 6, word_forbidden),
     class("word-and-sheet-refused", 6, word_and_sheet_refused),
     class("line-damaged", 40, line_damaged),
-    class("letters", 8, line_letters),
+    class("letters", 14, line_letters),
+    class("links", 5, line_links),
     class("order", 12, order),
     class("two-faults", 10, two_faults),
     class("stretch", 4, stretch),
@@ -67,6 +69,21 @@ fn asked(random: &mut Random, make: fn(&mut Random) -> String) -> Case {
     let word = make(random);
     let sheet = sheets::for_word(random, &word).bytes();
     case(word, sheet)
+}
+
+/// The same, but most sheets are made by `fill`.
+fn known(random: &mut Random, make: fn(&mut Random) -> String, fill: fn(&mut Random, &str, &mut Lines)) -> Case {
+    if random.chance(35) {
+        return asked(random, make);
+    }
+    let word = make(random);
+    let mut lines = Lines::default();
+    fill(random, &word, &mut lines);
+    case(word, lines.bytes())
+}
+
+fn every_piece(random: &mut Random, word: &str, lines: &mut Lines) {
+    sheets::some_pieces(random, word, lines, 100);
 }
 
 fn rank_tie(random: &mut Random) -> Case {
@@ -117,12 +134,11 @@ fn many_readings(random: &mut Random) -> Case {
     let word = words::many_readings(random);
     let mut lines = Lines::default();
     sheets::every_run(random, &word, &mut lines);
-    // A few runs less, so that counts just below and just above 64 come too.
-    let missing = random.weighted(&[(4, 0), (2, 1), (2, 3), (1, 20)]);
-    for _ in 0..missing {
-        let place = random.below(lines.words.len().max(1));
-        if let Some(name) = lines.words.keys().nth(place).cloned() {
-            lines.words.remove(&name);
+    // Some pieces less, so that counts just below and just above 64 come too.
+    let percent = random.pick(&[0, 0, 8, 16, 20, 24, 28, 32]);
+    for piece in pieces(&word) {
+        if random.chance(percent) {
+            lines.words.remove(piece);
         }
     }
     lines.fit(SHEET_LIMIT);
@@ -186,7 +202,10 @@ fn name_length(random: &mut Random) -> Case {
             lines.links.insert("गरि".to_string(), lemma.clone());
             lines.words.insert(lemma, random.pick(&["hv", "whv", "h"]).to_string());
             lines.word("रहनु", "hv");
-            return case(format!("{}गरि{}", random.pick(&["", "न"]), random.pick(texts::PROGRESSIVE_ENDINGS)), lines.bytes());
+            return case(
+                format!("{}गरि{}", random.pick(&["", "न"]), random.pick(texts::PROGRESSIVE_ENDINGS)),
+                lines.bytes(),
+            );
         }
         _ => drop(lines.words.insert(name, sheets::letters(random))),
     }
@@ -332,6 +351,17 @@ fn line_letters(random: &mut Random) -> Case {
     case(word, sheet)
 }
 
+/// Link lines whose names end as they must or nearly so, in a sheet that is good else.
+fn line_links(random: &mut Random) -> Case {
+    let word = any_word(random);
+    let mut sheet = String::new();
+    for place in 0..random.range(1, 3) {
+        let (link, infinitive) = (random.pick(LINK_NAMES), random.pick(INFINITIVES));
+        sheet.push_str(&format!("(l {place}{link} ({infinitive}))\n"));
+    }
+    case(word, sheet.into_bytes())
+}
+
 /// Forms that do not ascend: swapped, repeated, moved, of equal names, of letters out of order.
 fn order(random: &mut Random) -> Case {
     let word = any_word(random);
@@ -360,8 +390,14 @@ fn disorder(random: &mut Random, lines: &mut Vec<Vec<u8>>) {
         4 => {
             // Equal names with other letters, or a name and its own beginning.
             let name = random.pick(texts::STEMS);
-            let (first, second) =
-                random.pick(&[("", ""), ("a", ""), ("", "a"), ("अ", "आ"), ("\u{FFFF}", "\u{10000}"), ("\u{10000}", "\u{FFFF}")]);
+            let (first, second) = random.pick(&[
+                ("", ""),
+                ("a", ""),
+                ("", "a"),
+                ("अ", "आ"),
+                ("\u{FFFF}", "\u{10000}"),
+                ("\u{10000}", "\u{FFFF}"),
+            ]);
             lines.truncate(0);
             lines.push(format!("(w {name}{first} (w))\n").into_bytes());
             lines.push(format!("(w {name}{second} (wh))\n").into_bytes());
@@ -370,7 +406,13 @@ fn disorder(random: &mut Random, lines: &mut Vec<Vec<u8>>) {
             // The three kinds of line in any order, with names that ascend or not.
             lines.truncate(0);
             for _ in 0..3 {
-                let line = random.pick(&["(k की (comp))\n", "(l गरि (गर्नु))\n", "(w घर (w))\n", "(w अ (h))\n", "(k ले (post))\n"]);
+                let line = random.pick(&[
+                    "(k की (comp))\n",
+                    "(l गरि (गर्नु))\n",
+                    "(w घर (w))\n",
+                    "(w अ (h))\n",
+                    "(k ले (post))\n",
+                ]);
                 lines.push(line.as_bytes().to_vec());
             }
         }

@@ -3,6 +3,7 @@
 use crate::random::Random;
 
 /// Stretches of bytes at the limits of UTF-8; most are damaged, some are good on purpose.
+#[rustfmt::skip]
 pub const STRETCHES: &[&[u8]] = &[
     // overlong
     b"\xC0\x80", b"\xC1\xBF", b"\xE0\x80\x80", b"\xE0\x9F\xBF", b"\xF0\x80\x80\x80", b"\xF0\x8F\xBF\xBF",
@@ -172,21 +173,44 @@ pub const LINE_DAMAGES: &[(&str, fn(&mut Random, &mut Vec<u8>))] = &[
 ];
 
 const INNERS: &[&[u8]] = &[
-    b"post", b"comp", b"pos", b"postt", b"com", b"compp", b"Post", b"COMP", b"case", b"", b"post ", b" post", b"p", b"c",
-    b"postcomp", b"pomp", b"cost", b"w", b"h", b"wh",
+    b"post",
+    b"comp",
+    b"pos",
+    b"postt",
+    b"com",
+    b"compp",
+    b"Post",
+    b"COMP",
+    b"case",
+    b"",
+    b"post ",
+    b" post",
+    b"p",
+    b"c",
+    b"postcomp",
+    b"pomp",
+    b"cost",
+    b"w",
+    b"h",
+    b"wh",
 ];
 
-const LINK_NAMES: &[&str] = &["गरि", "खाइ", "ि", "इ", "गरी", "खाई", "गर", "गरिa", "िक", "ई", "aि", "\u{1F600}इ", "गरु"];
+pub const LINK_NAMES: &[&str] =
+    &["गरि", "खाइ", "ि", "इ", "गरी", "खाई", "गर", "गरिa", "िक", "ई", "aि", "\u{1F600}इ", "गरु"];
 
-const INFINITIVES: &[&str] = &["गर्नु", "नु", "न", "ु", "नू", "गर्नुa", "गर्ने", "", "aनु", "नुु", "नुनु", "गर्न"];
+pub const INFINITIVES: &[&str] = &["गर्नु", "नु", "न", "ु", "नू", "गर्नुa", "गर्ने", "", "aनु", "नुु", "नुनु", "गर्न"];
 
-/// Letters in any order and number, more often right than not in part.
+/// Letters in any order and number; about a quarter are right.
 pub fn any_letters(random: &mut Random) -> Vec<u8> {
-    if random.chance(30) {
+    if random.chance(15) {
         return (0..random.range(0, 5)).map(|_| random.pick(b"whvpetbdax W")).collect();
     }
-    let mut letters: Vec<u8> = b"whvpetbda".iter().copied().filter(|_| random.chance(45)).collect();
-    match random.below(6) {
+    const OFTEN: [(u8, usize); 5] = [(b'w', 60), (b'h', 68), (b'v', 35), (b'p', 45), (b'e', 35)];
+    let mut letters: Vec<u8> =
+        OFTEN.iter().filter(|(_, percent)| random.chance(*percent)).map(|&(letter, _)| letter).collect();
+    let tags = random.weighted(&[(5, ""), (1, "t"), (1, "b"), (1, "d"), (1, "a"), (1, "tb"), (1, "da"), (1, "at")]);
+    letters.extend_from_slice(tags.as_bytes());
+    match random.below(8) {
         0 if letters.len() > 1 => {
             let place = random.below(letters.len() - 1);
             letters.swap(place, place + 1);

@@ -79,11 +79,7 @@ fn letters() -> Vec<Case> {
     });
     let pairs = ALL.iter().flat_map(|&first| ALL.map(|second| vec![b'w', b'h', first, second]));
     let odd = [&b"W"[..], b"x", b"wx", b"xw", b"hw", b"whv ", b" wh", b"wh\xE0", b"wwh"].map(<[u8]>::to_vec);
-    chosen
-        .chain(pairs)
-        .chain(odd)
-        .map(|letters| case(b"", &[b"(w a (", &letters[..], b"))\n"].concat()))
-        .collect()
+    chosen.chain(pairs).chain(odd).map(|letters| case(b"", &[b"(w a (", &letters[..], b"))\n"].concat())).collect()
 }
 
 const GOOD: &[&str] = &["(k ले (post))\n", "(l गरि (गर्नु))\n", "(w घर (wh))\n"];
@@ -102,11 +98,45 @@ fn lines() -> Vec<Case> {
     }
     let kinds = ["pos", "posts", "Post", "com", "comp ", "case", "", "postcomp"];
     cases.extend(kinds.map(|kind| case(b"", format!("(k a ({kind}))\n").as_bytes())));
-    let links = [("गरी", "गर्नु"), ("गर", "गर्नु"), ("ि", "नु"), ("इ", "नु"), ("िक", "नु"), ("ई", "नु"), ("गरि", "गर्न"), ("गरि", "नू"), ("गरि", "नुa"), ("गरि", "")];
+    let links = [
+        ("गरी", "गर्नु"),
+        ("गर", "गर्नु"),
+        ("ि", "नु"),
+        ("इ", "नु"),
+        ("िक", "नु"),
+        ("ई", "नु"),
+        ("गरि", "गर्न"),
+        ("गरि", "नू"),
+        ("गरि", "नुa"),
+        ("गरि", ""),
+    ];
     cases.extend(links.map(|(link, lemma)| case(b"", format!("(l {link} ({lemma}))\n").as_bytes())));
     let heads = (0..=0x7F).filter(|&byte: &u8| byte.is_ascii_graphic());
     cases.extend(heads.map(|byte| case(b"", &[b"(", &[byte][..], b" a (w))\n"].concat())));
-    let stretches = ["", "\n", "\n\n", " ", "(", "(w", "(w a (w))", "(w a (w))\r\n", "(w a (w)) \n", " (w a (w))\n", "(w a (w))\n\n", "(w a (w))(w b (w))\n", "(w a (w)", "((w a (w)))\n", "(w\ta (w))\n", "(w a b (w))\n", "(w a (w) (h))\n", "(k a (post) (comp))\n", "(w a)\n", "(w (w))\n", "()\n", "w a w\n"];
+    let stretches = [
+        "",
+        "\n",
+        "\n\n",
+        " ",
+        "(",
+        "(w",
+        "(w a (w))",
+        "(w a (w))\r\n",
+        "(w a (w)) \n",
+        " (w a (w))\n",
+        "(w a (w))\n\n",
+        "(w a (w))(w b (w))\n",
+        "(w a (w)",
+        "((w a (w)))\n",
+        "(w\ta (w))\n",
+        "(w a b (w))\n",
+        "(w a (w) (h))\n",
+        "(k a (post) (comp))\n",
+        "(w a)\n",
+        "(w (w))\n",
+        "()\n",
+        "w a w\n",
+    ];
     cases.extend(stretches.map(|sheet| case(b"", sheet.as_bytes())));
     cases.push(case(b"", &[b'a'; 2_000]));
     cases.push(case(b"", &[b'\n'; 300]));
@@ -115,7 +145,15 @@ fn lines() -> Vec<Case> {
 
 /// Two or three lines in every order, equal ones too, with a fault in each place.
 fn orders() -> Vec<Case> {
-    const FORMS: &[&str] = &["(k z (post))\n", "(l इ (नु))\n", "(w a (w))\n", "(w ab (h))\n", "(w b (w))\n", "(w \u{FFFF} (w))\n", "(w \u{10000} (w))\n"];
+    const FORMS: &[&str] = &[
+        "(k z (post))\n",
+        "(l इ (नु))\n",
+        "(w a (w))\n",
+        "(w ab (h))\n",
+        "(w b (w))\n",
+        "(w \u{FFFF} (w))\n",
+        "(w \u{10000} (w))\n",
+    ];
     let mut cases = Vec::new();
     for first in FORMS {
         for second in FORMS {

@@ -126,12 +126,40 @@ pub fn one_kind_each(random: &mut Random, word: &str, lines: &mut Lines) {
     }
 }
 
+/// Tags for the word and its remainders, so that the first that is asked decides.
+pub fn tags(random: &mut Random, word: &str, lines: &mut Lines) {
+    for piece in pieces(word) {
+        let letters =
+            random.weighted(&[(8, ""), (2, "ht"), (2, "whb"), (2, "hd"), (2, "ha"), (2, "h"), (1, "wh"), (2, "w")]);
+        if !letters.is_empty() && (piece != word || random.chance(40)) {
+            lines.word(piece, letters);
+        }
+    }
+}
+
+/// Pronouns among the pieces in ई and ी, and remainders that are known.
+pub fn pronouns(random: &mut Random, word: &str, lines: &mut Lines) {
+    for piece in pieces(word) {
+        let letters = if piece.ends_with(['ई', 'ी']) {
+            random.weighted(&[(3, "whp"), (3, "whpe"), (1, "hp"), (1, "hpe"), (2, "wh"), (1, "w")])
+        } else {
+            random.weighted(&[(5, "w"), (1, "whp"), (1, "whpe"), (1, "h")])
+        };
+        if random.chance(90) {
+            lines.word(piece, letters);
+        }
+    }
+}
+
+/// Characters before the ending: the two that link, and two that look like them and do not.
+const LINKING: [char; 4] = ['ि', 'इ', 'ी', 'ई'];
+
 /// Verbs and links for those pieces that look like progressive forms.
 pub fn progressive(random: &mut Random, word: &str, lines: &mut Lines) {
     let mut seen = false;
     for piece in pieces(word) {
         let linked = PROGRESSIVE_ENDINGS.iter().find_map(|ending| piece.strip_suffix(ending));
-        let Some(linked) = linked.filter(|linked| linked.ends_with(['ि', 'इ'])) else {
+        let Some(linked) = linked.filter(|linked| linked.ends_with(LINKING)) else {
             continue;
         };
         seen = true;
@@ -148,17 +176,14 @@ pub fn progressive(random: &mut Random, word: &str, lines: &mut Lines) {
 }
 
 fn verbs_of(random: &mut Random, linked: &str, lines: &mut Lines) {
-    let Some(stem) = linked.strip_suffix(['ि', 'इ']) else {
+    let Some(stem) = linked.strip_suffix(LINKING) else {
         return;
     };
-    let lemmas = [
-        format!("{stem}नु"),
-        format!("{stem}्नु"),
-        format!("{stem}उनु"),
-        format!("{linked}नु"),
-    ];
-    for lemma in &lemmas {
-        if random.chance(40) {
+    let lemmas = [format!("{stem}नु"), format!("{stem}्नु"), format!("{stem}उनु"), format!("{linked}नु")];
+    // One lemma alone in half of the asks, so that each is the one that decides.
+    let alone = random.chance(50).then(|| random.below(lemmas.len()));
+    for (place, lemma) in lemmas.iter().enumerate() {
+        if alone.map_or(random.chance(40), |alone| alone == place) {
             lines.word(lemma, random.weighted(&[(6, "hv"), (2, "whv"), (1, "h"), (1, "w"), (1, "whp")]));
         }
     }

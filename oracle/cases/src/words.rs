@@ -201,21 +201,30 @@ pub fn stripped_origin(random: &mut Random) -> String {
         1 => String::new(),
         _ => stem(random),
     };
-    push_suffixes(random, &mut word, shabda::STRIP_SUFFIXES, 2);
-    let suffix = random.pick(shabda::STRIP_SUFFIXES);
+    if random.chance(40) {
+        push_suffixes(random, &mut word, shabda::STRIP_SUFFIXES, 2);
+    }
+    // The first six are compounds, which end in a later one.
+    let suffix = match random.below(3) {
+        0 => random.pick(&shabda::STRIP_SUFFIXES[..6]),
+        _ => random.pick(shabda::STRIP_SUFFIXES),
+    };
     push_suffix(random, &mut word, suffix);
     fit(word, WORD_LIMIT)
 }
 
+#[rustfmt::skip]
 const MARKS: &[&str] = &[
-    "\u{0957}", "\u{0958}", "\u{0959}", "\u{095A}", "\u{095B}", "\u{095C}", "\u{095D}", "\u{095E}", "\u{095F}", "\u{0960}",
-    "\u{093B}", "\u{093C}", "\u{093C}", "\u{093C}", "\u{093D}", "ऋ", "ृ", "ष", "ः", "क्ष", "ज्ञ", "क्त", "त्म", "त्र", "त्त", "द्ध",
-    "द्य", "द्व", "ॠ", "ॄ", "श", "ं", "क्श", "ज्न", "क्थ", "त्न", "त्य", "त्थ", "द्द", "द्र", "द्न", "क्", "त्", "द्",
+    "\u{0957}", "\u{0958}", "\u{0959}", "\u{095A}", "\u{095B}", "\u{095C}", "\u{095D}", "\u{095E}",
+    "\u{095F}", "\u{0960}", "\u{093B}", "\u{093C}", "\u{093C}", "\u{093C}", "\u{093D}", "ऋ", "ृ",
+    "ष", "ः", "क्ष", "ज्ञ", "क्त", "त्म", "त्र", "त्त", "द्ध", "द्य", "द्व", "ॠ", "ॄ", "श", "ं",
+    "क्श", "ज्न", "क्थ", "त्न", "त्य", "त्थ", "द्द", "द्र", "द्न", "क्", "त्", "द्",
 ];
 
+#[rustfmt::skip]
 const ENDS: &[&str] = &[
-    "नु", "ने", "को", "ठो", "ठा", "डो", "डा", "ढो", "ढा", "टो", "णा", "ठ", "ड", "ो", "ा", "ठि", "डे", "नि", "ना", "का", "की",
-    "न", "क", "ठोा", "ढ़ो", "े", "ु",
+    "नु", "ने", "को", "ठो", "ठा", "डो", "डा", "ढो", "ढा", "टो", "णा", "ठ", "ड", "ो", "ा", "ठि",
+    "डे", "नि", "ना", "का", "की", "न", "क", "ठोा", "ढ़ो", "े", "ु",
 ];
 
 /// Marks of origin at the start, inside and at the end, and their neighbours.
@@ -291,18 +300,20 @@ pub fn any_letters(random: &mut Random) -> String {
 
 /// Words with many readings: around 64 where every run is known.
 pub fn many_readings(random: &mut Random) -> String {
-    let mut word = random.weighted(&[(3, "निःनिः"), (2, "निः"), (1, "निःप्रति"), (1, "अभिनिः"), (2, "")]).to_string();
-    word.push_str(random.pick(&["घर", "मानव", "काम", "लक", "भारत"]));
-    if random.chance(20) {
-        word.push_str("हरू");
+    let prefixes = random.weighted(&[(6, "निःनिः"), (1, "निः"), (1, "निःप्रति"), (1, "अभिनिः"), (1, "")]);
+    let mut word = format!("{prefixes}{}", random.pick(&["घर", "मानव", "काम", "लक", "भारत"]));
+    if random.chance(15) {
+        word.push_str(random.pick(PLURAL_MARKERS));
     }
-    let count = random.range(2, 5);
+    // क्यारे ends in रे, which is a particle too: with three case markers it gives most.
+    let longest = random.chance(70);
+    let count = if longest { 3 } else { random.range(2, 5) };
     let suffix = random.pick(CASE_MARKERS);
     for _ in 0..count {
         word.push_str(if random.chance(70) { suffix } else { random.pick(CASE_MARKERS) });
     }
-    if random.chance(70) {
-        word.push_str(random.pick(PARTICLES));
+    if longest || random.chance(50) {
+        word.push_str(if longest { "क्यारे" } else { random.pick(PARTICLES) });
     }
     fit(word, WORD_LIMIT)
 }

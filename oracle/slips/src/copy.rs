@@ -37,6 +37,8 @@ impl Copy {
             .args(["build", "--release", "--offline", "--quiet", "-p", "answers", "--bin", "oracle"])
             .current_dir(self.root.join("oracle"))
             .env("CARGO_TARGET_DIR", self.root.join("target"))
+            // Built once and run once: less optimising is sooner done.
+            .env("CARGO_PROFILE_RELEASE_OPT_LEVEL", "1")
             .env("RUSTFLAGS", "--cap-lints allow")
             .status()?;
         assert!(built.success(), "{}: the copy does not build", slip.name);

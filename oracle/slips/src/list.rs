@@ -6,6 +6,7 @@ mod progressive;
 mod rank;
 mod readings;
 mod roots;
+mod sheet;
 
 use crate::slip::Slip;
 
@@ -14,16 +15,15 @@ const PROGRESSIVE: &str = "docs/src/crates/shabda/src/progressive.rs";
 const ORIGIN: &str = "docs/src/crates/shabda/src/origin.rs";
 const TABLES: &str = "docs/src/crates/shabda/src/tables.rs";
 
-pub fn all() -> Vec<Slip> {
+/// The slips of each area, by its name.
+pub fn areas() -> [(&'static str, Vec<Slip>); 7] {
     [
-        readings::slips(),
-        rank::slips(),
-        roots::slips(),
-        progressive::slips(),
-        origin::slips(),
-        acceptance::slips(),
+        ("readings", readings::slips()),
+        ("rank", rank::slips()),
+        ("roots", roots::slips()),
+        ("progressive", progressive::slips()),
+        ("origin", origin::slips()),
+        ("sheet", sheet::slips()),
+        ("acceptance", acceptance::slips()),
     ]
-    .into_iter()
-    .flatten()
-    .collect()
 }

@@ -3,6 +3,7 @@
 //!
 //!     slips --seed S --count N [--only TEXT]
 //!
+//! `--only` takes the slips whose "area: name" holds the text.
 //! Exits 1 if a slip that is not equivalent stays unseen.
 
 mod copy;
@@ -21,26 +22,56 @@ fn main() -> io::Result<()> {
     let copy = Copy::make()?;
     copy.put_cases(&cases)?;
 
-    let slips: Vec<Slip> = list::all().into_iter().filter(|slip| slip.name.contains(&options.only)).collect();
-    let (mut caught, mut planted, mut equivalent) = (0, 0, 0);
+    let mut sums = Sums::default();
     println!("{:>7}  {:24} slip", "cases", "first class");
-    for slip in &slips {
-        let found = differences(&copy.answers_with(slip)?, &answers)?;
-        let first = found.first().map_or("-", |&index| cases::class_of(index as u64).name);
-        println!("{:7}  {first:24} {}", found.len(), slip.name);
-        if slip.equivalent.is_some() && found.is_empty() {
-            equivalent += 1;
+    for (area, slips) in list::areas() {
+        let mut of_area = Sums::default();
+        for slip in slips.iter().filter(|slip| format!("{area}: {}", slip.name).contains(&options.only)) {
+            let found = differences(&copy.answers_with(slip)?, &answers);
+            let first = found.first().map_or("-", |&index| cases::class_of(index as u64).name);
+            println!("{:7}  {first:24} {area}: {}", found.len(), slip.name);
+            of_area.count(slip, !found.is_empty());
+        }
+        println!("{area}: {of_area}");
+        sums.add(&of_area);
+    }
+    println!("{} cases of seed {}: {sums}", options.count, options.seed);
+    std::process::exit(i32::from(sums.caught != sums.planted));
+}
+
+#[derive(Default)]
+struct Sums {
+    planted: usize,
+    caught: usize,
+    /// Named as equivalent, and not caught.
+    equivalent: usize,
+}
+
+impl Sums {
+    fn count(&mut self, slip: &Slip, caught: bool) {
+        if slip.equivalent.is_some() && !caught {
+            self.equivalent += 1;
         } else {
-            planted += 1;
-            caught += usize::from(!found.is_empty());
+            self.planted += 1;
+            self.caught += usize::from(caught);
         }
     }
-    println!("caught {caught} of {planted} with {} cases of seed {}; {equivalent} equivalent", options.count, options.seed);
-    std::process::exit(i32::from(caught != planted));
+
+    fn add(&mut self, more: &Sums) {
+        self.planted += more.planted;
+        self.caught += more.caught;
+        self.equivalent += more.equivalent;
+    }
+}
+
+impl std::fmt::Display for Sums {
+    fn fmt(&self, f: &mut std::fmt::Formatter) -> std::fmt::Result {
+        write!(f, "caught {} of {}, and {} equivalent", self.caught, self.planted, self.equivalent)
+    }
 }
 
 /// Indices of the cases whose answers differ. A copy that stops early differs from there on.
-fn differences(output: &[u8], answers: &[Vec<u8>]) -> io::Result<Vec<usize>> {
+fn differences(output: &[u8], answers: &[Vec<u8>]) -> Vec<usize> {
     let mut input = BufReader::new(output);
     let mut found = Vec::new();
     for (index, answer) in answers.iter().enumerate() {
@@ -48,7 +79,7 @@ fn differences(output: &[u8], answers: &[Vec<u8>]) -> io::Result<Vec<usize>> {
             found.push(index);
         }
     }
-    Ok(found)
+    found
 }
 
 struct Options {

@@ -1,56 +1,36 @@
+-- `exports::yunthirel_check_word` meets its contract, answer by answer. Assumes nothing.
 use borrow.Author.Needs.{needs}
+use mathlib.Core.Path.{sym, ap, _∙_}
+use Rattle.text.specs.Word.{wordNumber}
 use Rattle.exports.proofs.yunthirel_check_word.Statement.{statement}
 use Rattle.exports.proofs.yunthirel_check_word.Tie as tie
-use Rattle.exports.proofs.yunthirel_check_word.Reads as reads
-use Rattle.exports.proofs.yunthirel_check_word.Lts as lts
-use Rattle.text.proofs.word.check_word.Reads as check-word-reads
 
--- src/lib.rt:14:9
 check-word-requires : tie.Need-check-word-requires
-check-word-requires c κs = search needs
+check-word-requires c κs = tt
 
--- src/lib.rt:16:32
 enum-told : tie.Need-enum-told
 enum-told c = search needs
 
--- src/lib.rt:17:31
 enum-told-2 : tie.Need-enum-told-2
 enum-told-2 c = search needs
 
--- src/lib.rt:18:31
 enum-told-3 : tie.Need-enum-told-3
 enum-told-3 c = search needs
 
--- src/lib.rt:19:33
 enum-told-4 : tie.Need-enum-told-4
 enum-told-4 c = search needs
 
--- src/lib.rt:10:1
 returns : tie.Need-returns
-returns c = ?
+returns c = ap wordNumber (sym (c .enum-told .given .1) ∙ c .before .before .check-word .ensures)
 
--- src/lib.rt:10:1
 returns-2 : tie.Need-returns-2
-returns-2 c = ?
+returns-2 c = ap wordNumber (sym (c .enum-told2 .given .1) ∙ c .before .before .check-word .ensures)
 
--- src/lib.rt:10:1
 returns-3 : tie.Need-returns-3
-returns-3 c = ?
+returns-3 c = ap wordNumber (sym (c .enum-told3 .given .1) ∙ c .before .before .check-word .ensures)
 
--- src/lib.rt:10:1
 returns-4 : tie.Need-returns-4
-returns-4 c = ?
+returns-4 c = ap wordNumber (sym (c .enum-told4 .given .1) ∙ c .before .before .check-word .ensures)
 
 pub yunthirel-check-word-spec : {M : Type 1} → statement M
-yunthirel-check-word-spec =
-    tie.close
-    (tie.spec
-    check-word-requires
-    enum-told
-    enum-told-2
-    enum-told-3
-    enum-told-4
-    returns
-    returns-2
-    returns-3
-    returns-4)
+yunthirel-check-word-spec = tie.close (tie.spec check-word-requires enum-told enum-told-2 enum-told-3 enum-told-4 returns returns-2 returns-3 returns-4)

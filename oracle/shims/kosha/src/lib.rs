@@ -42,24 +42,16 @@ impl Kosha {
     pub fn lookup(&self, word: &str) -> Option<WordEntry> {
         let letters = ask(|sheet| sheet.letters(word)).filter(|letters| letters.has('h'))?;
         Some(WordEntry {
-            pos: Pos {
-                letters,
-                note: letters.has('e').then(|| ask(|sheet| sheet.place(word))).flatten(),
-            },
+            pos: Pos { letters, note: letters.has('e').then(|| ask(|sheet| sheet.place(word))).flatten() },
         })
     }
 
     /// The origin that the word's tag letter names.
     pub fn origin_of(&self, word: &str) -> Option<Origin> {
         let pos = self.lookup(word)?.pos;
-        [
-            ('t', Origin::Tatsam),
-            ('b', Origin::Tadbhav),
-            ('d', Origin::Deshaj),
-            ('a', Origin::Aagantuk),
-        ]
-        .into_iter()
-        .find_map(|(letter, origin)| pos.letters.has(letter).then_some(origin))
+        [('t', Origin::Tatsam), ('b', Origin::Tadbhav), ('d', Origin::Deshaj), ('a', Origin::Aagantuk)]
+            .into_iter()
+            .find_map(|(letter, origin)| pos.letters.has(letter).then_some(origin))
     }
 
     /// A sheet names no source language.
@@ -84,9 +76,7 @@ pub struct Pos {
 impl Pos {
     /// Whether the text holds `wanted`; the source asks this of `[root+ई]` alone.
     pub fn contains(&self, wanted: &str) -> bool {
-        self.note
-            .and_then(|place| ask(|sheet| sheet.derivation(place)))
-            .is_some_and(|text| text.contains(wanted))
+        self.note.and_then(|place| ask(|sheet| sheet.derivation(place))).is_some_and(|text| text.contains(wanted))
     }
 }
 

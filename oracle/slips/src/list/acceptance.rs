@@ -53,8 +53,8 @@ pub fn slips() -> Vec<Slip> {
             &[
                 ("    let mut start = 0;\n", "    let mut start = 0;\n    let mut before: &[u8] = b\"\";\n"),
                 (
-                    "            .ok_or(Refusal::at(5, start))?;",
-                    "            .ok_or(Refusal::at(if stretch <= before { 6 } else { 5 }, start))?;",
+                    ".ok_or(Refusal::at(5, start))?;",
+                    ".ok_or(Refusal::at(if stretch <= before { 6 } else { 5 }, start))?;",
                 ),
                 ("        forms.push(form);\n", "        forms.push(form);\n        before = stretch;\n"),
             ],
@@ -98,21 +98,21 @@ pub fn slips() -> Vec<Slip> {
         slip(
             "a last stretch without 0A let in",
             LIB,
-            "            .strip_suffix(b\"\\n\")\n            .and_then(Form::of_line)",
-            "            .strip_suffix(b\"\\n\")\n            .or(Some(stretch))\n            .and_then(Form::of_line)",
+            ".and_then(Form::of_line)",
+            ".or(Some(stretch)).and_then(Form::of_line)",
         ),
         slip(
             "empty lines let in",
             LIB,
-            "        let form = stretch\n",
-            "        if stretch == b\"\\n\" {\n            start += 1;\n            continue;\n        }\n        let form = stretch\n",
+            "        let form = stretch",
+            "        if stretch == b\"\\n\" {\n            start += 1;\n            continue;\n        }\n        let form = stretch",
         ),
         slip("start of the line after", LIB, "return Err(Refusal::at(6, start));", "return Err(Refusal::at(6, start + stretch.len()));"),
         slip(
             "start counted in lines",
             LIB,
-            "            .ok_or(Refusal::at(5, start))?;",
-            "            .ok_or(Refusal::at(5, forms.len()))?;",
+            ".ok_or(Refusal::at(5, start))?;",
+            ".ok_or(Refusal::at(5, forms.len()))?;",
         ),
         slip("equal names let in", FORM, "self.order() < next.order()", "self.order() <= next.order()"),
         slip("order by names alone", FORM, "self.order() < next.order()", "self.order().1 < next.order().1"),

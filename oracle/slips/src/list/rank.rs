@@ -152,12 +152,7 @@ pub fn slips() -> Vec<Slip> {
         slip("prefix lists descending", MORPHOLOGY, "a.prefixes.cmp(&b.prefixes)", "b.prefixes.cmp(&a.prefixes)"),
         slip("suffix lists descending", MORPHOLOGY, "a.suffixes.cmp(&b.suffixes)", "b.suffixes.cmp(&a.suffixes)"),
         equivalent(
-            slip(
-                "suffix lists left out",
-                MORPHOLOGY,
-                "            .then_with(|| a.suffixes.cmp(&b.suffixes))\n",
-                "",
-            ),
+            slip("suffix lists left out", MORPHOLOGY, "            .then_with(|| a.suffixes.cmp(&b.suffixes))\n", ""),
             "one root has two suffix lists of equal score only as एको (shared) and को (plain), and the walk \
              meets them in that order already",
         ),

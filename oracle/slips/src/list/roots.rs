@@ -116,8 +116,18 @@ pub fn slips() -> Vec<Slip> {
             "    suffixes.reverse();\n    Morpheme {\n        root: remaining,\n",
         ),
         slip("ी keeps its label", MORPHOLOGY, "        \"ी\" => \"ई\".to_string(),\n", ""),
-        slip("ई left out of the pronoun rule", MORPHOLOGY, "matches!(suffix, \"ई\" | \"ी\")", "matches!(suffix, \"ी\")"),
-        slip("ी left out of the pronoun rule", MORPHOLOGY, "matches!(suffix, \"ई\" | \"ी\")", "matches!(suffix, \"ई\")"),
+        slip(
+            "ई left out of the pronoun rule",
+            MORPHOLOGY,
+            "matches!(suffix, \"ई\" | \"ी\")",
+            "matches!(suffix, \"ी\")",
+        ),
+        slip(
+            "ी left out of the pronoun rule",
+            MORPHOLOGY,
+            "matches!(suffix, \"ई\" | \"ी\")",
+            "matches!(suffix, \"ई\")",
+        ),
         slip("e ignored", MORPHOLOGY, "                if !explicit {", "                if !explicit || true {"),
         slip("p ignored", MORPHOLOGY, "                if !explicit {", "                if !explicit && false {"),
         slip(

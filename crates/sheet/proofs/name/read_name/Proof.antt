@@ -22,8 +22,11 @@ Inv-loop s from state₀ i₀ state i =
 abbrev μ-loop : tie.MeasureT-loop
 μ-loop s from state₀ i₀ state i = length s - i
 
+skip-threes-requires : tie.Need-skip-threes-requires Inv-loop μ-loop
+skip-threes-requires c κs = c .before .pre
+
 loop-holds : tie.Need-loop-holds Inv-loop μ-loop
-loop-holds c = (omega arith, c .before .pre, refl, refl)
+loop-holds c = let p = c .skip-threes .ensures in (p .ahead, p .inside, p .counted, p .owed)
 
 shared-slice-read-b : tie.Need-shared-slice-read-b Inv-loop μ-loop
 shared-slice-read-b c = omega arith
@@ -41,7 +44,7 @@ returns : tie.Need-returns Inv-loop μ-loop
 returns c =
     let f = c .before .before in
     let k = f .before .before .before in
-    let a = k .before .before .args in
+    let a = k .before .before .before .args in
     let z = stops-here (a .s .now) (k .loop .i) (f .before .before .loop-test .taken) (sym (f .is-forbidden .ensures) ∙ c .before .if1 .taken) in
     (omega arith, omega arith, c .named .ensures ∙ read-done (a .s .now) (k .loop .i) (a .«from») (owedOf (k .loop .state)) (k .loop .inv .0) z (k .loop .inv .2) (k .loop .inv .3))
 
@@ -58,7 +61,7 @@ loop-again : tie.Need-loop-again Inv-loop μ-loop
 loop-again c =
     let f = c .before .before in
     let k = f .before .before .before in
-    let a = k .before .before .args in
+    let a = k .before .before .before .args in
     let h = f .before .before .loop-test .taken in
     let e = sym (f .is-forbidden .ensures) ∙ c .before .if1 .left in
     let g = goes-on (a .s .now) (k .loop .i) h e in
@@ -73,12 +76,12 @@ named-requires-2 c κs = tt
 returns-2 : tie.Need-returns-2 Inv-loop μ-loop
 returns-2 c =
     let k = c .before .before in
-    let a = k .before .before .args in
+    let a = k .before .before .before .args in
     let z = stops-end (a .s .now) (k .loop .i) (c .before .loop-test .left) in
     (omega arith, omega arith, c .named2 .ensures ∙ read-done (a .s .now) (k .loop .i) (a .«from») (owedOf (k .loop .state)) (k .loop .inv .0) z (k .loop .inv .2) (k .loop .inv .3))
 
 pub read-name-spec : {M : Type 1} → statement M
 read-name-spec =
     tie.close
-    (tie.spec Inv-loop μ-loop loop-holds shared-slice-read-b is-forbidden-requires sub-named named-requires returns next-requires add-i loop-less loop-again
+    (tie.spec Inv-loop μ-loop skip-threes-requires loop-holds shared-slice-read-b is-forbidden-requires sub-named named-requires returns next-requires add-i loop-less loop-again
     sub-named-2 named-requires-2 returns-2)
