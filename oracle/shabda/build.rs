@@ -65,7 +65,7 @@ fn main() {
         let text = fs::read_to_string(&from).unwrap_or_else(|error| panic!("{}: {error}", from.display()));
         fs::write(&to, patched(module, text)).unwrap();
         // The parsers of the two inventories stay in the source, unused.
-        modules.push_str(&format!("#[allow(dead_code)]\n#[path = {to:?}]\npub mod {module};\n"));
+        modules.push_str(&format!("#[allow(dead_code, clippy::all)]\n#[path = {to:?}]\npub mod {module};\n"));
     }
     fs::write(out.join("modules.rs"), modules).unwrap();
     println!("cargo:rerun-if-changed={}", package.join("../shabda/build.rs").display());

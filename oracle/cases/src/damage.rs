@@ -60,8 +60,10 @@ pub fn forbidden_byte(random: &mut Random) -> u8 {
     }
 }
 
+pub type Damage = fn(&mut Random, &mut Vec<u8>);
+
 /// The ways in which a line is made no form, by name.
-pub const LINE_DAMAGES: &[(&str, fn(&mut Random, &mut Vec<u8>))] = &[
+pub const LINE_DAMAGES: &[(&str, Damage)] = &[
     ("space doubled", |random, line| insert_at(random, line, b' ', b" ")),
     ("space missing", |random, line| remove_one(random, line, b' ')),
     ("tab for space", |random, line| replace_one(random, line, b' ', b'\t')),

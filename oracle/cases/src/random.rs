@@ -8,12 +8,12 @@ impl Random {
     /// A stream of its own for each case, so that any case can be made again by its index.
     pub fn for_case(seed: u64, index: u64) -> Self {
         let mut random = Random { state: seed };
-        random.state = random.next() ^ index.wrapping_mul(0xD605_BBB5_8C8A_BC03);
-        random.next();
+        random.state = random.draw() ^ index.wrapping_mul(0xD605_BBB5_8C8A_BC03);
+        random.draw();
         random
     }
 
-    pub fn next(&mut self) -> u64 {
+    pub fn draw(&mut self) -> u64 {
         self.state = self.state.wrapping_add(0x9E37_79B9_7F4A_7C15);
         let mut z = self.state;
         z = (z ^ (z >> 30)).wrapping_mul(0xBF58_476D_1CE4_E5B9);
@@ -23,7 +23,7 @@ impl Random {
 
     /// A number below `limit`, which is at least 1.
     pub fn below(&mut self, limit: usize) -> usize {
-        (self.next() % limit as u64) as usize
+        (self.draw() % limit as u64) as usize
     }
 
     /// A number from `low` to `high`, both included.

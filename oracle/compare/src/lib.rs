@@ -13,7 +13,8 @@ pub struct Question {
     pub port: fn(&Case) -> String,
 }
 
-/// To add a question: its name, the oracle's answer, the port's answer.
+/// To add a question: its name, the oracle's answer, the port's answer. For an accepted word and
+/// sheet `answers::answer` holds every answer of the oracle, `answers::listing` the list alone.
 pub const QUESTIONS: &[Question] = &[
     Question {
         name: "check_word",

@@ -25,13 +25,8 @@ impl Copy {
         Ok(Copy { root })
     }
 
-    pub fn put_cases(&self, cases: &[Case]) -> io::Result<()> {
-        let mut out = BufWriter::new(File::create(self.root.join("cases"))?);
-        cases.iter().try_for_each(|case| blocks::write_case(&mut out, case))
-    }
-
-    /// What the oracle with the slip writes for the cases.
-    pub fn answers_with(&self, slip: &Slip) -> io::Result<Vec<u8>> {
+    /// Builds the oracle with the slip in it; the files are as they were afterwards.
+    pub fn build(&self, slip: &Slip) -> io::Result<()> {
         let before = self.plant(slip)?;
         let built = Command::new(env!("CARGO"))
             .args(["build", "--release", "--offline", "--quiet", "-p", "answers", "--bin", "oracle"])
@@ -42,11 +37,17 @@ impl Copy {
             .env("RUSTFLAGS", "--cap-lints allow")
             .status()?;
         assert!(built.success(), "{}: the copy does not build", slip.name);
-        for (path, text) in before {
-            fs::write(path, text)?;
-        }
+        before.into_iter().try_for_each(|(path, text)| fs::write(path, text))
+    }
+
+    /// What the oracle built last writes for the cases.
+    pub fn answers(&self, cases: &[Case]) -> io::Result<Vec<u8>> {
+        let path = self.root.join("cases");
+        let mut out = BufWriter::new(File::create(&path)?);
+        cases.iter().try_for_each(|case| blocks::write_case(&mut out, case))?;
+        out.into_inner()?;
         let output = Command::new(self.root.join("target/release/oracle"))
-            .stdin(File::open(self.root.join("cases"))?)
+            .stdin(File::open(path)?)
             .stderr(Stdio::null())
             .output()?;
         Ok(output.stdout)
@@ -54,16 +55,11 @@ impl Copy {
 
     /// Makes the slip's edits and hands back the files as they were.
     fn plant(&self, slip: &Slip) -> io::Result<Vec<(PathBuf, String)>> {
-        let mut before: Vec<(PathBuf, String)> = Vec::new();
-        for edit in &slip.edits {
-            let path = self.root.join(edit.file);
-            let text = fs::read_to_string(&path)?;
-            let times = text.matches(edit.old).count();
-            assert_eq!(times, 1, "{}: {:?} stands {times} times in {}", slip.name, edit.old, edit.file);
-            fs::write(&path, text.replacen(edit.old, edit.new, 1))?;
-            if !before.iter().any(|(known, _)| *known == path) {
-                before.push((path, text));
-            }
+        let mut before = Vec::new();
+        for (file, edited) in slip.edited(&self.root)? {
+            let path = self.root.join(file);
+            before.push((path.clone(), fs::read_to_string(&path)?));
+            fs::write(path, edited)?;
         }
         Ok(before)
     }

@@ -27,3 +27,21 @@ pub fn areas() -> [(&'static str, Vec<Slip>); 7] {
         ("acceptance", acceptance::slips()),
     ]
 }
+
+#[cfg(test)]
+mod tests {
+    use std::collections::BTreeSet;
+    use std::path::Path;
+
+    #[test]
+    fn every_old_text_stands_exactly_once_and_no_name_comes_twice() {
+        let root = Path::new(env!("CARGO_MANIFEST_DIR")).join("../..");
+        for (area, slips) in super::areas() {
+            let names: BTreeSet<&str> = slips.iter().map(|slip| slip.name).collect();
+            assert_eq!(names.len(), slips.len(), "a name of {area} comes twice");
+            for slip in slips {
+                slip.edited(&root).expect("the files are there");
+            }
+        }
+    }
+}

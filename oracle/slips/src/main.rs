@@ -1,5 +1,5 @@
 //! Plants each slip in a copy of the source, builds the copy, and counts the generated cases that
-//! tell it from the true one.
+//! tell it from the true one. Cases are asked 4,000 at a time, until some of them do.
 //!
 //!     slips --seed S --count N [--only TEXT]
 //!
@@ -20,16 +20,16 @@ fn main() -> io::Result<()> {
     let cases: Vec<Case> = (0..options.count).map(|index| cases::case(options.seed, index)).collect();
     let answers: Vec<Vec<u8>> = cases.iter().map(|case| answers::answer(&case.word, &case.sheet)).collect();
     let copy = Copy::make()?;
-    copy.put_cases(&cases)?;
 
     let mut sums = Sums::default();
-    println!("{:>7}  {:24} slip", "cases", "first class");
+    println!("{:>7} {:>7}  {:24} slip", "differ", "asked", "first class");
     for (area, slips) in list::areas() {
         let mut of_area = Sums::default();
         for slip in slips.iter().filter(|slip| format!("{area}: {}", slip.name).contains(&options.only)) {
-            let found = differences(&copy.answers_with(slip)?, &answers);
+            copy.build(slip)?;
+            let (found, asked) = search(&copy, &cases, &answers)?;
             let first = found.first().map_or("-", |&index| cases::class_of(index as u64).name);
-            println!("{:7}  {first:24} {area}: {}", found.len(), slip.name);
+            println!("{:7} {asked:7}  {first:24} {area}: {}", found.len(), slip.name);
             of_area.count(slip, !found.is_empty());
         }
         println!("{area}: {of_area}");
@@ -70,16 +70,28 @@ impl std::fmt::Display for Sums {
     }
 }
 
-/// Indices of the cases whose answers differ. A copy that stops early differs from there on.
-fn differences(output: &[u8], answers: &[Vec<u8>]) -> Vec<usize> {
-    let mut input = BufReader::new(output);
+/// Cases asked at a time.
+const PART: usize = 4_000;
+
+/// Indices of the cases whose answers differ, up to the end of the first part that has any, and
+/// how many cases were asked. A copy that stops early differs from there on.
+fn search(copy: &Copy, cases: &[Case], answers: &[Vec<u8>]) -> io::Result<(Vec<usize>, usize)> {
     let mut found = Vec::new();
-    for (index, answer) in answers.iter().enumerate() {
-        if blocks::read_answer(&mut input).ok().flatten().as_ref() != Some(answer) {
-            found.push(index);
+    let mut asked = 0;
+    for (cases, answers) in cases.chunks(PART).zip(answers.chunks(PART)) {
+        let output = copy.answers(cases)?;
+        let mut input = BufReader::new(&output[..]);
+        for (index, answer) in answers.iter().enumerate() {
+            if blocks::read_answer(&mut input).ok().flatten().as_ref() != Some(answer) {
+                found.push(asked + index);
+            }
+        }
+        asked += cases.len();
+        if !found.is_empty() {
+            break;
         }
     }
-    found
+    Ok((found, asked))
 }
 
 struct Options {

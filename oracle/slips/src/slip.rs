@@ -1,5 +1,10 @@
 //! A slip: a small mistake, planted by one edit or a few.
 
+use std::collections::BTreeMap;
+use std::fs;
+use std::io;
+use std::path::Path;
+
 pub struct Slip {
     pub name: &'static str,
     pub edits: Vec<Edit>,
@@ -26,4 +31,23 @@ pub fn edits(name: &'static str, file: &'static str, edits: &[(&'static str, &'s
 
 pub fn equivalent(slip: Slip, reason: &'static str) -> Slip {
     Slip { equivalent: Some(reason), ..slip }
+}
+
+impl Slip {
+    /// The slip's files below `root` with its edits made. Stops where an old text does not stand
+    /// exactly once.
+    pub fn edited(&self, root: &Path) -> io::Result<BTreeMap<&'static str, String>> {
+        let mut files = BTreeMap::new();
+        for edit in &self.edits {
+            if !files.contains_key(edit.file) {
+                files.insert(edit.file, fs::read_to_string(root.join(edit.file))?);
+            }
+            let text = &files[edit.file];
+            let times = text.matches(edit.old).count();
+            assert_eq!(times, 1, "{}: {:?} stands {times} times in {}", self.name, edit.old, edit.file);
+            let text = text.replacen(edit.old, edit.new, 1);
+            files.insert(edit.file, text);
+        }
+        Ok(files)
+    }
 }

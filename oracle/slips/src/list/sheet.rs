@@ -1,6 +1,6 @@
 //! How the sheet answers.
 
-use crate::slip::{Slip, slip};
+use crate::slip::{Slip, edits, slip};
 
 const LOOKUP: &str = "oracle/shims/kosha/src/lib.rs";
 const SHEET: &str = "oracle/shims/kosha/src/sheet.rs";
@@ -53,19 +53,13 @@ pub fn slips() -> Vec<Slip> {
             ".is_some_and(|text| text.contains(wanted))",
             ".is_some_and(|text| text.contains(wanted) && !text.contains(\"ी\"))",
         ),
-        slip(
+        edits(
             "tags b and d exchanged",
             LOOKUP,
-            "            ('b', Origin::Tadbhav),\n            ('d', Origin::Deshaj),",
-            "            ('d', Origin::Tadbhav),\n            ('b', Origin::Deshaj),",
+            &[("('b', Origin::Tadbhav)", "('d', Origin::Tadbhav)"), ("('d', Origin::Deshaj)", "('b', Origin::Deshaj)")],
         ),
-        slip(
-            "tag a left out",
-            LOOKUP,
-            "            ('a', Origin::Aagantuk),\n",
-            "            ('a', Origin::Deshaj),\n",
-        ),
-        slip("tag d is no tag", LOOKUP, "            ('d', Origin::Deshaj),\n", ""),
+        slip("tag a taken for d", LOOKUP, "('a', Origin::Aagantuk)", "('a', Origin::Deshaj)"),
+        slip("tag d is no tag", LOOKUP, "('d', Origin::Deshaj)", "('x', Origin::Deshaj)"),
         slip(
             "post taken for comp",
             ANSWERS,

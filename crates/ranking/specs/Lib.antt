@@ -1,0 +1,4 @@
+pub mod Parts
+pub mod Rank
+pub mod Lists
+pub mod Places
