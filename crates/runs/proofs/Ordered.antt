@@ -1,16 +1,16 @@
 -- Laws of `cmp` and `sameText`: an order by bytes, of which equal runs are the same run. Searches and the check of a sheet's
 -- ascent cite them. Assumes nothing.
 use mathlib.Core.Path.{_≡_, refl, sym, ap, _∙_}
-use mathlib.Core.Bool.{Bool, true, false, _&&_}
+use mathlib.Core.Bool.{Bool, true, false}
 use mathlib.Core.List.{List, [], _∷_, _++_}
-use Prim.Native.Nat.{ℕ, zero, suc, _+_, _<_, _≤_}
-use native.Mathlib.Nat.{le-antisymm, lt-irrefl}
+use Prim.Native.Nat.{ℕ, _+_, _<_, _≤_}
+use native.Mathlib.Nat.{le-antisymm}
 use native.Mathlib.Numerals.{add-one}
 use native.Mathlib.Omega.{arith}
 use lib.ListN.{length, take, drop, getD, drop-of-length-le}
 use lib.Seq.{drop-cons}
-use lib.Dec.{eqb, ltb, leb}
-use borrow.Author.Tests.{ltb-true, ltb-false, lt-ltb, le-ltb, eq-eqb, ne-eqb, eqb-true}
+use lib.Dec.{eqb, ltb}
+use borrow.Author.Tests.{ltb-true, ltb-false, lt-ltb, le-ltb, eq-eqb, ne-eqb}
 use Rattle.runs.specs.Runs.{pick, sameText, cmp}
 use Rattle.runs.specs.declared.Order.{Order}
 use Rattle.runs.specs.declared.Order.the-variants.{Less, Equal, Greater}
@@ -149,7 +149,7 @@ andThen Less r = Less
 andThen Equal r = r
 andThen Greater r = Greater
 
-step-then : (x y : ℕ) (r s : Order) → step x y (andThen r s) ≡ andThen (step x y r) s
+pub step-then : (x y : ℕ) (r s : Order) → step x y (andThen r s) ≡ andThen (step x y r) s
 step-then x y r s = go (ltb x y) (ltb y x)
   where
     go : (b c : Bool) → pick b Less (pick c Greater (andThen r s)) ≡ andThen (pick b Less (pick c Greater r)) s

@@ -26,6 +26,11 @@ replyIn (e ∷ es) q = pick (sameText (key e) q) (told (e .value)) (replyIn es q
 unfoldable pub reply : List ℕ → ℕ → List ℕ → Reply
 reply s letter name = replyIn (linesOf s) (keyOf letter name)
 
+-- all that a sheet is asked: a reply to each first letter and name. What is said of a word below says it of replies, so that two
+-- sheets which reply alike are the same to it
+abbrev pub Ask : Type 0
+Ask = ℕ → List ℕ → Reply
+
 -- two sheets reply alike to a question: neither has a line for it, or both give the same letters, infinitive or kind
 unfoldable pub Alike : List ℕ → List ℕ → ℕ → List ℕ → Type 0
 Alike s t letter name = reply s letter name ≡ reply t letter name
@@ -37,6 +42,10 @@ lettersTold (told v) = lettersOf v
 -- the letters of a name's `w` line, none where it has no line
 unfoldable pub lettersFor : List ℕ → List ℕ → Letters
 lettersFor s name = lettersTold (reply s 0x77 name)
+
+-- the same of replies
+abbrev pub lettersBy : Ask → List ℕ → Letters
+lettersBy ask name = lettersTold (ask 0x77 name)
 
 -- starts is what stands for the accepted sheet s in a search: the first byte of each of its lines
 pub record Indexed (s starts : List ℕ) : Type 0 where

@@ -1,9 +1,8 @@
 -- `runs::compare` meets its contract: what is left of both runs, from the i-th byte on, compares as the runs do.
 -- Assumes nothing.
-use mathlib.Core.Path.{_≡_, refl, sym, ap, _∙_}
-use Prim.Native.Nat.{ℕ, _+_, _-_, _≤_, _<_}
+use mathlib.Core.Path.{_≡_, refl, sym, _∙_}
+use Prim.Native.Nat.{_-_, _≤_}
 use native.Mathlib.Nat.{le-antisymm}
-use native.Mathlib.Numerals.{add-one}
 use native.Mathlib.Omega.{arith}
 use lib.ListN.{length, drop}
 use Rattle.runs.specs.Runs.{cmp}
@@ -56,7 +55,8 @@ loop-less c = omega arith
 loop-again : tie.Need-loop-again Inv-loop μ-loop
 loop-again c =
     let d = c .before .before .before .before .before .before .before .before in
-    (omega arith, omega arith, d .loop .inv .2 ∙ turn-same _ _ (d .loop .i) (omega arith) (omega arith) (le-antisymm (c .if3 .left) (c .before .before .before .if2 .left)))
+    let e = le-antisymm (c .if3 .left) (c .before .before .before .if2 .left) in
+    (omega arith, omega arith, d .loop .inv .2 ∙ turn-same _ _ (d .loop .i) (omega arith) (omega arith) e)
 
 returns-4 : tie.Need-returns-4 Inv-loop μ-loop
 returns-4 c =

@@ -1,6 +1,6 @@
 -- `runs::same` meets its contract: of two runs of one length, the one that stands at the front of the other is the other.
 -- Assumes nothing.
-use mathlib.Core.Path.{_≡_, sym, _∙_}
+use mathlib.Core.Path.{sym, _∙_}
 use borrow.Author.Needs.{needs}
 use Rattle.runs.proofs.Begins.{begins-same}
 use Rattle.runs.proofs.Ends.{same-lengths}

@@ -1,16 +1,18 @@
 //! Writes seeded cases to standard output in the block format.
 //!
-//!     generate --seed S --count N          the cases
-//!     generate --seed S --count N --stats  how many of each class, and what was accepted
+//!     generate --seed S --count N            the cases 0 to N - 1 of the seed
+//!     generate --seed S --from I --count N   the cases from I on
+//!     generate --seed S --count N --stats    how many of each class, and what was accepted
 
 use std::io::{self, BufWriter, Write};
 
 fn main() -> io::Result<()> {
-    let (mut seed, mut count, mut stats) = (1, 1000, false);
+    let (mut seed, mut from, mut count, mut stats) = (1, 0, 1000, false);
     let mut args = std::env::args().skip(1);
     while let Some(arg) = args.next() {
         match arg.as_str() {
             "--seed" => seed = number(args.next()),
+            "--from" => from = number(args.next()),
             "--count" => count = number(args.next()),
             "--stats" => stats = true,
             other => refuse(&format!("unknown option {other}")),
@@ -20,7 +22,7 @@ fn main() -> io::Result<()> {
     if stats {
         table(&mut out, seed, count)?;
     } else {
-        for index in 0..count {
+        for index in from..from + count {
             blocks::write_case(&mut out, &cases::case(seed, index))?;
         }
     }

@@ -109,18 +109,26 @@ pub fn slips() -> Vec<Slip> {
         ),
         equivalent(
             slip("known by w last", MORPHOLOGY, "b.known_word.cmp(&a.known_word)", "a.known_word.cmp(&b.known_word)"),
-            "equal scores with h on both sides and w on one want 6 or more suffixes on the side without w, \
-             but a decomposition with suffixes has a root known by w",
+            "where scores are equal, both sides have h and one alone has w, the other has six suffixes or more, \
+             but such a decomposition has a root known by w",
+        ),
+        slip(
+            "headword rule left out",
+            MORPHOLOGY,
+            "            .then_with(|| b.known_headword.cmp(&a.known_headword))\n",
+            "",
         ),
         equivalent(
             slip(
-                "headword rule left out",
+                "headword rule and w rule left out",
                 MORPHOLOGY,
-                "            .then_with(|| b.known_headword.cmp(&a.known_headword))\n",
+                "            .then_with(|| b.known_headword.cmp(&a.known_headword))
+            .then_with(|| b.known_word.cmp(&a.known_word))
+",
                 "",
             ),
-            "equal scores with h on one side alone want 2 or more suffixes, or a prefix, more on the other, \
-             whose root then has fewer characters: the rule after it says the same",
+            "where scores are equal and one side alone has h, the other has more affixes (prefix and three suffixes \
+             against one suffix, or more), so its root has fewer characters: the next rule says the same",
         ),
         slip(
             "root characters ascending",

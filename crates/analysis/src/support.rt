@@ -1,0 +1,48 @@
+// Which roots are supported, and how a reading scores.
+use lookup::answers::letters_of;
+use lookup::starts::Start;
+use tables::row;
+ghost use mathlib.Core.Path.{_≡_};
+ghost use mathlib.Core.List.{_++_};
+ghost use Prim.Native.Nat.{_≤_};
+ghost use Rattle.tables.specs.Tables.{Laid, affixes};
+ghost use Rattle.sheet.specs.Replies.{Indexed, reply};
+ghost use Rattle.progressive.specs.Progressive.{isProgressive};
+ghost use Rattle.analysis.specs.Support.{isKnown, hasSibling, isSupported, scoreOf};
+ghost use Rattle.analysis.specs.Supports.{supportOf};
+
+// What the sheet says of a root: known by w, by h, an appended form known, a supported progressive form.
+pub struct Support {
+    pub word: bool,
+    pub head: bool,
+    pub sibling: bool,
+    pub progressive: bool,
+}
+
+// Whether the sheet knows the name that p and then q make, by w or by h.
+pub fn is_known(sheet: &[u8], starts: &[Start], p: &[u8], q: &[u8]) -> bool
+    requires { ⌜ Indexed (now sheet) (now starts) ⌝ }
+    ensures { λ r. ⌜ r ≡ isKnown (reply (now (sheet .entry))) (now (p .entry) ++ now (q .entry)) ⌝ }
+{
+    let letters = letters_of(sheet, starts, p, q);
+    if letters.word {
+        return true;
+    }
+    letters.head
+}
+
+// Whether the sheet knows the piece with one of the 25 texts appended.
+pub fn has_sibling(sheet: &[u8], starts: &[Start], texts: &[u8], cuts: &[u16], piece: &[u8]) -> bool
+    requires { ⌜ Indexed (now sheet) (now starts) × Laid affixes (now texts) (now cuts) ⌝ }
+    ensures { λ r. ⌜ r ≡ hasSibling (reply (now (sheet .entry))) (now (piece .entry)) ⌝ }
+{
+    let mut k: usize = 0;
+    while k < 25 {
+        let text = row(texts, cuts, k);
+        if is_known(sheet, starts, piece, text) {
+            return true;
+        }
+        k += 1;
+    }
+    false
+}

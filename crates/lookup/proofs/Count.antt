@@ -1,0 +1,105 @@
+-- How many lines an accepted sheet has at most, and how a walk from line to line finds their first bytes.
+-- The proofs of `fill_starts` and `seek` cite it, and every caller that lends a list for the starts. Assumes nothing.
+use mathlib.Core.Path.{_≡_, refl, sym, ap, _∙_}
+use mathlib.Core.Bool.{Bool, true, false}
+use mathlib.Core.List.{List, [], _∷_, _++_, append-assoc}
+use Prim.Native.Nat.{ℕ, zero, suc, _+_, _-_, _*_, _<_, _≤_}
+use native.Mathlib.Numerals.{add-one}
+use native.Mathlib.Omega.{arith}
+use lib.ListN.{length, take, drop, getD, set, length-drop, drop-of-length-le}
+use lib.Seq.{drop-cons, drop-drop, take-at, take-suc-set, drop-set-lt}
+use lib.Dec.{eqb, ltb}
+use borrow.Author.Tests.{ltb-true, ltb-false}
+use Rattle.runs.specs.Runs.{pick}
+use Rattle.sheet.specs.Forms.{key}
+use Rattle.sheet.specs.Lines.{lineAt, startsFrom, startsOf, sheetCheck, sheetLimit}
+use Rattle.sheet.specs.Replies.{Indexed}
+use Rattle.sheet.specs.declared.check.SheetCheck.the-variants.{Accepted}
+use Rattle.lookup.specs.Starts.{upto, shortestLine, lineLimit}
+use Rattle.lookup.proofs.Forms.{form-length, line-end, line-long}
+use Rattle.lookup.proofs.Accepted.{GoesUp, accepted-short, accepted-up}
+
+-- inside a line the next one begins behind the next 0A
+inside-line : (n : ℕ) (t : List ℕ) → startsFrom false n t ≡ startsFrom true (suc (n + upto 0x0A t)) (drop (suc (upto 0x0A t)) t)
+inside-line n [] = refl
+inside-line n (b ∷ t) = go (eqb b 0x0A) (inside-line (suc n) t)
+  where
+    go : (c : Bool) → startsFrom false (suc n) t ≡ startsFrom true (suc (suc n + upto 0x0A t)) (drop (suc (upto 0x0A t)) t) →
+        startsFrom c (suc n) t ≡
+        startsFrom true (suc (n + pick c zero (suc (upto 0x0A t)))) (drop (suc (pick c zero (suc (upto 0x0A t)))) (b ∷ t))
+    go true r = ap (λ (k : ℕ). startsFrom true k t) (omega arith)
+    go false r =
+        let z : suc (suc n + upto 0x0A t) ≡ suc (n + suc (upto 0x0A t)) = omega arith in
+        r ∙ ap (λ (k : ℕ). startsFrom true k (drop (suc (upto 0x0A t)) t)) z
+
+-- the lines from the one that begins at byte `at` on; e is where that one ends
+pub next-start : (s : List ℕ) (at e : ℕ) → at < length s → e ≡ at + upto 0x0A (drop at s) →
+    startsFrom true at (drop at s) ≡ at ∷ startsFrom true (e + 1) (drop (e + 1) s)
+next-start s at e h p =
+    let u = upto 0x0A (drop at s) in
+    let a : suc (at + u) ≡ e + 1 = omega arith in
+    let b : at + suc u ≡ e + 1 = omega arith in
+    let head : startsFrom true at (drop at s) ≡ at ∷ startsFrom false at (drop at s) = rw (drop-cons s at 0) in
+    head ∙ ap (λ (l : List ℕ). at ∷ l) (inside-line at (drop at s)
+    ∙ ap (λ (k : ℕ). startsFrom true k (drop (suc u) (drop at s))) a
+    ∙ ap (λ (l : List ℕ). startsFrom true (e + 1) l) (drop-drop (suc u) at s ∙ ap (λ (k : ℕ). drop k s) b))
+
+pub no-lines : (s : List ℕ) (at : ℕ) → length s ≤ at → startsFrom true at (drop at s) ≡ []
+no-lines s at h = rw (drop-of-length-le s h)
+
+-- the lines from byte `at` on take so many bytes; k is at least how many bytes there are
+few-from : (k : ℕ) (s : List ℕ) (at : ℕ) (last : List ℕ) → length s ≤ at + k → GoesUp s last (startsFrom true at (drop at s)) →
+    shortestLine * length (startsFrom true at (drop at s)) ≤ length s - at
+few-from zero s at last h g = rw (no-lines s at (omega arith)) (omega arith)
+few-from (suc k) s at last h g = go (ltb at (length s)) refl (few-from k s)
+  where
+    go : (b : Bool) → ltb at (length s) ≡ b →
+        ((n : ℕ) (l : List ℕ) → length s ≤ n + k → GoesUp s l (startsFrom true n (drop n s)) →
+        shortestLine * length (startsFrom true n (drop n s)) ≤ length s - n) →
+        shortestLine * length (startsFrom true at (drop at s)) ≤ length s - at
+    go false f rest = rw (no-lines s at (ltb-false _ _ f)) (omega arith)
+    go true f rest =
+        let e = at + upto 0x0A (drop at s) in
+        let n = next-start s at e (ltb-true _ _ f) refl in
+        let g′ : GoesUp s last (at ∷ startsFrom true (e + 1) (drop (e + 1) s)) = rw n at g in
+        let r = rest (e + 1) (key (lineAt s at)) (omega arith) (g′ .2) in
+        let u = line-long (drop at s) (g′ .0) in
+        let v = line-end (drop at s) (g′ .0) in
+        let w = form-length (drop at s) (g′ .0) in
+        let x = length-drop at s in
+        rw n (omega arith)
+
+pub few-lines : (s : List ℕ) → sheetCheck s ≡ Accepted → length (startsOf s) ≤ lineLimit
+few-lines s h =
+    let f = few-from (length s) s 0 [] (omega arith) (accepted-up s h) in
+    let l = accepted-short s h in
+    omega arith
+
+-- what `fill_starts` asks, of an accepted sheet and a list of n places
+pub room : (s : List ℕ) (n : ℕ) → sheetCheck s ≡ Accepted → lineLimit ≤ n → (length s ≤ sheetLimit) × (length (startsOf s) ≤ n)
+room s n h l = let f = few-lines s h in (accepted-short s h, omega arith)
+
+-- a line begins inside the sheet, so that every start of an accepted one fits 16 bits
+starts-from : (c : Bool) (n : ℕ) (t : List ℕ) (i : ℕ) → i < length (startsFrom c n t) → getD (startsFrom c n t) i 0 < n + length t
+starts-from c n [] i h = absurd (omega arith)
+starts-from true n (b ∷ t) zero h = omega arith
+starts-from true n (b ∷ t) (suc i) h = let z = starts-from (eqb b 0x0A) (suc n) t i (omega arith) in omega arith
+starts-from false n (b ∷ t) i h = let z = starts-from (eqb b 0x0A) (suc n) t i h in omega arith
+
+pub start-fits : (s : List ℕ) (i : ℕ) → sheetCheck s ≡ Accepted → i < length (startsOf s) → getD (startsOf s) i 0 < sheetLimit
+start-fits s i h k = let z = starts-from true 0 s i k in let l = accepted-short s h in omega arith
+
+-- one turn of the filling: the start `at` stored at place n of `out`, which was `old` before
+module _ (out old : List ℕ) (n at : ℕ) (h : n < length out) where
+  pub stored-front : (rest : List ℕ) → take (n + 1) (set out n at) ++ rest ≡ take n out ++ at ∷ rest
+  stored-front rest = rw (add-one, take-suc-set out n at h) (append-assoc (take n out) (at ∷ []) rest)
+
+  pub stored-behind : drop n out ≡ drop n old → drop (n + 1) (set out n at) ≡ drop (n + 1) old
+  stored-behind e =
+      drop-set-lt (n + 1) out n at (omega arith) ∙ sym (drop-drop 1 n out) ∙ ap (λ (l : List ℕ). drop 1 l) e ∙ drop-drop 1 n old
+
+-- what the caller of `fill_starts` has: the stored starts stand for the accepted sheet in a search
+pub filled : (s out old : List ℕ) (r : ℕ) → sheetCheck s ≡ Accepted → r ≡ length (startsOf s) → out ≡ startsOf s ++ drop r old →
+    Indexed s (take r out)
+filled s out old r h n e =
+    record { accepted = h; listed = ap (λ (l : List ℕ). take r l) e ∙ take-at (startsOf s) (drop r old) r (sym n) }

@@ -1,0 +1,9 @@
+pub mod Upto
+pub mod Forms
+pub mod Accepted
+pub mod Count
+pub mod Halves
+pub mod Rounds
+pub mod Settled
+pub mod Parts
+pub mod Promises

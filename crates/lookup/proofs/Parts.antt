@@ -1,0 +1,92 @@
+-- Where the name and the value of a found line stand in the sheet. The proofs of `answers` cite it. Assumes nothing.
+use mathlib.Core.Path.{_≡_, sym, ap, _∙_}
+use mathlib.Core.Bool.{Bool, true, false}
+use mathlib.Core.List.{List}
+use Prim.Native.Nat.{ℕ, _+_, _-_, _≤_}
+use native.Mathlib.Omega.{arith}
+use lib.ListN.{length, take, drop}
+use lib.Seq.{drop-drop}
+use Rattle.runs.specs.Runs.{pick, sameText}
+use Rattle.sheet.specs.Forms.{key, keyOf}
+use Rattle.sheet.specs.Lines.{lineAt}
+use Rattle.sheet.specs.Replies.{Reply, reply}
+use Rattle.lookup.specs.declared.search.Found.the-variants.{At, Nothing}
+use Rattle.lookup.specs.declared.answers.Spot.{Spot}
+use Rattle.lookup.specs.Starts.{upto}
+use Rattle.lookup.specs.Search.{Sought}
+use Rattle.lookup.specs.Answers.{noSpot, valueSpot, nameSpot, ValueOf, named, NameOf, post, kindTold, kindFor}
+use Rattle.lookup.specs.declared.answers.SheetKind.the-variants.{Post, Comp}
+use Rattle.lookup.proofs.Forms.{line-room, value-closed, value-taken, name-taken}
+
+module _ (s : List ℕ) (letter : ℕ) (name : List ℕ) where
+  pub no-value : Sought s letter name Nothing → ValueOf s letter name noSpot
+  no-value k = record { settled = ap (valueSpot s (length name)) (k .settled); reads = k .answers; inside = omega arith }
+
+  pub no-name : Sought s letter name Nothing → NameOf s letter name noSpot
+  no-name k = record { settled = ap (nameSpot (length name)) (k .settled); reads = ap (named name) (k .answers); inside = omega arith }
+
+abbrev spot : ℕ → ℕ → Spot
+spot from len = record { found = true; at = from; len = len }
+
+module _ (s : List ℕ) (letter : ℕ) (name : List ℕ) (at : ℕ) (k : Sought s letter name (At at)) where
+  found-name : lineAt s at .name ≡ name
+  found-name = let e : key (lineAt s at) ≡ keyOf letter name = k .placed .asks in cc
+
+  pub found-room : at + (length name + length (lineAt s at .value) + 8) ≤ length s
+  found-room =
+      let e : length (lineAt s at .name) ≡ length name = ap length found-name in
+      omega (arith, line-room s at (k .placed .form))
+
+  from-line : (from : ℕ) → from ≡ at + 5 + length name → drop (5 + length (lineAt s at .name)) (drop at s) ≡ drop from s
+  from-line from p =
+      let e : length (lineAt s at .name) ≡ length name = ap length found-name in
+      let q : at + (5 + length (lineAt s at .name)) ≡ from = omega arith in
+      drop-drop _ at s ∙ ap (λ (n : ℕ). drop n s) q
+
+  pub some-value : (from end : ℕ) → from ≡ at + 5 + length name → end ≡ from + upto 0x29 (drop from s) →
+      ValueOf s letter name (record { found = true; at = from; len = end - from })
+  some-value from end p e =
+      let t = drop at s in
+      let f = k .placed .form in
+      let d = from-line from p in
+      let l : upto 0x29 (drop from s) ≡ length (lineAt s at .value) = ap (λ (x : List ℕ). upto 0x29 x) (sym d) ∙ value-closed t f in
+      let n : end - from ≡ length (lineAt s at .value) = omega arith in
+      let r : take (end - from) (drop from s) ≡ lineAt s at .value =
+      ap (λ (x : ℕ). take x (drop from s)) n ∙ ap (λ (x : List ℕ). take (length (lineAt s at .value)) x) (sym d) ∙ value-taken t f in
+      record {
+        settled =
+            ap (λ (x : ℕ). spot from x) n ∙ ap (λ (x : ℕ). spot x (length (lineAt s at .value))) p
+            ∙ ap (valueSpot s (length name)) (k .settled);
+        reads = ap Reply.told r ∙ k .answers;
+        inside = omega (arith, found-room);
+      }
+
+  pub some-name : (len : ℕ) → len ≡ length name → NameOf s letter name (record { found = true; at = at + 3; len = len })
+  some-name len p =
+      let n : len ≡ length (lineAt s at .name) = p ∙ ap length (sym found-name) in
+      let r : take len (drop (at + 3) s) ≡ name =
+      ap (λ (x : ℕ). take x (drop (at + 3) s)) n
+      ∙ ap (λ (x : List ℕ). take (length (lineAt s at .name)) x) (sym (drop-drop 3 at s))
+      ∙ name-taken (drop at s) (k .placed .form) ∙ found-name in
+      record {
+        settled = ap (λ (x : ℕ). spot (at + 3) x) p ∙ ap (nameSpot (length name)) (k .settled);
+        reads = ap Reply.told r ∙ ap (named name) (k .answers);
+        inside = omega (arith, found-room);
+      }
+
+-- what the sheet replies, read where the part stands, from its first byte up to its end
+module _ (s : List ℕ) (letter : ℕ) (name : List ℕ) (r : Spot) (k : ValueOf s letter name r) where
+  pub unread : r .found ≡ false → Reply.unknown ≡ reply s letter name
+  unread e = ap (λ (b : Bool). pick b (Reply.told (take (r .len) (drop (r .at) s))) Reply.unknown) (sym e) ∙ k .reads
+
+  pub read : r .found ≡ true → Reply.told (take (r .at + r .len - r .at) (drop (r .at) s)) ≡ reply s letter name
+  read e =
+      let p : r .at + r .len - r .at ≡ r .len = omega arith in
+      ap (λ (x : ℕ). Reply.told (take x (drop (r .at) s))) p
+      ∙ ap (λ (b : Bool). pick b (Reply.told (take (r .len) (drop (r .at) s))) Reply.unknown) (sym e) ∙ k .reads
+
+-- the kind of a suffix, where b is what was found of the value
+pub kind-read : (s name : List ℕ) (r : Spot) → ValueOf s 0x6B name r → r .found ≡ true → (b c : Bool) →
+    b ≡ sameText (take (r .at + r .len - r .at) (drop (r .at) s)) post → b ≡ c → pick c Post Comp ≡ kindFor s name
+unfolding kindFor
+kind-read s name r k f b c e g = ap (λ (x : Bool). pick x Post Comp) (sym g ∙ e) ∙ ap kindTold (read s 0x6B name r k f)

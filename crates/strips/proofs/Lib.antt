@@ -1,0 +1,5 @@
+pub mod Returns
+pub mod Parts
+pub mod First
+pub mod Remainders
+pub mod Rows
