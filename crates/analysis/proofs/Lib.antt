@@ -1,1 +1,2 @@
 pub mod Siblings
+pub mod Supported

@@ -7,7 +7,7 @@ use mathlib.Core.List.{List, [], _++_}
 use lib.ListN.{length, drop, getD, drop-of-length-le}
 use lib.Seq.{drop-cons}
 use Rattle.sheet.specs.Replies.{Ask}
-use Rattle.analysis.specs.Support.{isKnown, knownWith}
+use Rattle.paths.specs.Support.{isKnown, knownWith}
 
 module _ (ask : Ask) (name : List ℕ) (ts : List (List ℕ)) (k : ℕ) where
   pub known-here : k < length ts → isKnown ask (name ++ getD ts k []) ≡ true → knownWith ask name (drop k ts) ≡ true

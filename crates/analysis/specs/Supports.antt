@@ -1,10 +1,11 @@
 -- What the code knows of a root: its support as a record. Assumes nothing.
-use Prim.Native.Nat.{ℕ}
-use mathlib.Core.Bool.{Bool, _||_}
+use Prim.Native.Nat.{ℕ, _+_, _*_}
+use lib.Dec.{eqb, ltb}
+use mathlib.Core.Bool.{Bool, not, _&&_, _||_}
 use mathlib.Core.List.{List}
 use Rattle.sheet.specs.Replies.{Ask, lettersBy}
 use Rattle.progressive.specs.Progressive.{isProgressive}
-use Rattle.analysis.specs.Support.{hasSibling}
+use Rattle.paths.specs.Support.{hasSibling, points}
 use Rattle.analysis.specs.declared.support.Support.{Support}
 
 abbrev pub supportOf : Ask → List ℕ → Support
@@ -13,3 +14,13 @@ supportOf ask root = record {
     head = lettersBy ask root .head;
     sibling = hasSibling ask root;
     progressive = isProgressive ask root }
+
+-- the score of a support, which is that of its root
+abbrev pub scoreFrom : ℕ → Support → ℕ → ℕ → ℕ
+scoreFrom surface s prefixes suffixes =
+    points (s .word) 100 + points (s .head) 150 + points (s .sibling) 60
+    + 20 * prefixes + 15 * suffixes + points (ltb 0 (prefixes + suffixes)) 10 + surface
+
+-- whether a root with this support, and so many bytes, is supported
+abbrev pub supports : Support → ℕ → Bool
+supports s n = not (eqb n 0) && (s .word || s .head || s .sibling || s .progressive)

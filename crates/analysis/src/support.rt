@@ -8,8 +8,8 @@ ghost use Prim.Native.Nat.{_≤_};
 ghost use Rattle.tables.specs.Tables.{Laid, affixes};
 ghost use Rattle.sheet.specs.Replies.{Indexed, reply};
 ghost use Rattle.progressive.specs.Progressive.{isProgressive};
-ghost use Rattle.analysis.specs.Support.{isKnown, hasSibling, isSupported, scoreOf};
-ghost use Rattle.analysis.specs.Supports.{supportOf};
+ghost use Rattle.paths.specs.Support.{isKnown, hasSibling, points};
+ghost use Rattle.analysis.specs.Supports.{supportOf, scoreFrom, supports};
 
 // What the sheet says of a root: known by w, by h, an appended form known, a supported progressive form.
 pub struct Support {
@@ -45,4 +45,45 @@ pub fn has_sibling(sheet: &[u8], starts: &[Start], texts: &[u8], cuts: &[u16], p
         k += 1;
     }
     false
+}
+
+// n where b holds, else nothing.
+fn points_for(b: bool, n: u16) -> u16
+    ensures { λ r. ⌜ (r ≡ points b n) × (r ≤ n) ⌝ }
+{
+    if b {
+        return n;
+    }
+    0
+}
+
+// The score of a reading whose root has this support: the surface has so many characters, and so many affixes are stripped.
+pub fn score(surface: u16, s: Support, prefixes: u8, suffixes: u8) -> u16
+    requires { ⌜ (surface ≤ 192) × (prefixes ≤ 2) × (suffixes ≤ 4) ⌝ }
+    ensures { λ r. ⌜ r ≡ scoreFrom surface s prefixes suffixes ⌝ }
+{
+    let word = points_for(s.word, 100);
+    let head = points_for(s.head, 150);
+    let sibling = points_for(s.sibling, 60);
+    let any = points_for(0 < prefixes + suffixes, 10);
+    word + head + sibling + 20 * (prefixes as u16) + 15 * (suffixes as u16) + any + surface
+}
+
+// Whether a root of so many bytes with this support is supported: an empty one never is.
+pub fn is_supported(s: Support, len: usize) -> bool
+    ensures { λ r. ⌜ r ≡ supports s len ⌝ }
+{
+    if len == 0 {
+        return false;
+    }
+    if s.word {
+        return true;
+    }
+    if s.head {
+        return true;
+    }
+    if s.sibling {
+        return true;
+    }
+    s.progressive
 }

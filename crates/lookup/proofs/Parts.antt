@@ -1,7 +1,7 @@
 -- Where the name and the value of a found line stand in the sheet. The proofs of `answers` cite it. Assumes nothing.
 use mathlib.Core.Path.{_≡_, sym, ap, _∙_}
 use mathlib.Core.Bool.{Bool, true, false}
-use mathlib.Core.List.{List}
+use mathlib.Core.List.{List, [], _++_, append-nil}
 use Prim.Native.Nat.{ℕ, _+_, _-_, _≤_}
 use native.Mathlib.Omega.{arith}
 use lib.ListN.{length, take, drop}
@@ -73,6 +73,10 @@ module _ (s : List ℕ) (letter : ℕ) (name : List ℕ) (at : ℕ) (k : Sought 
         reads = ap Reply.told r ∙ ap (named name) (k .answers);
         inside = omega (arith, found-room);
       }
+
+-- a name and nothing behind it is the name
+pub one-part : (s : List ℕ) (letter : ℕ) (name : List ℕ) (r : Spot) → ValueOf s letter (name ++ []) r → ValueOf s letter name r
+one-part s letter name r k = rw append-nil at k
 
 -- what the sheet replies, read where the part stands, from its first byte up to its end
 module _ (s : List ℕ) (letter : ℕ) (name : List ℕ) (r : Spot) (k : ValueOf s letter name r) where

@@ -93,22 +93,22 @@ head-fits (x ∷ n) (y ∷ p) e =
     (λ h f. let z : length p ≤ length n = head-fits n p f in omega arith)
 
 -- the order of the name at the front of t and a question of two parts, where x is what was found of the first
-pub parts-decided : (t p q : List ℕ) (x o : Order) → x ≡ headed (spaced t) p → x ≡ o →
+pub first-decides : (t p q : List ℕ) (x o : Order) → x ≡ headed (spaced t) p → x ≡ o →
     andThen o (cmp (drop (length p) (spaced t)) q) ≡ cmp (spaced t) (p ++ q)
-parts-decided t p q x o e f =
+first-decides t p q x o e f =
     sym (head-parts (spaced t) p q ∙ ap (λ (y : Order). andThen y (cmp (drop (length p) (spaced t)) q)) (sym e ∙ f))
 
-pub parts-left : (t p q : List ℕ) (x : Order) → x ≡ headed (spaced t) p → x ≡ Equal →
+pub first-leaves : (t p q : List ℕ) (x : Order) → x ≡ headed (spaced t) p → x ≡ Equal →
     cmp (spaced (drop (length p) t)) q ≡ cmp (spaced t) (p ++ q)
-parts-left t p q x e f =
-    ap (λ (m : List ℕ). cmp m q) (sym (spaced-drop (length p) t (head-fits (spaced t) p (sym e ∙ f)))) ∙ parts-decided t p q x Equal e f
+first-leaves t p q x e f =
+    ap (λ (m : List ℕ). cmp m q) (sym (spaced-drop (length p) t (head-fits (spaced t) p (sym e ∙ f)))) ∙ first-decides t p q x Equal e f
 
 -- the same for a question of one part
-pub name-decided : (t q : List ℕ) (x o : Order) → x ≡ headed (spaced t) q → x ≡ o →
+pub name-decides : (t q : List ℕ) (x o : Order) → x ≡ headed (spaced t) q → x ≡ o →
     andThen o (cmp (drop (length q) (spaced t)) []) ≡ cmp (spaced t) q
-name-decided t q x o e f = parts-decided t q [] x o e f ∙ ap (λ (m : List ℕ). cmp (spaced t) m) (append-nil q)
+name-decides t q x o e f = first-decides t q [] x o e f ∙ ap (λ (m : List ℕ). cmp (spaced t) m) (append-nil q)
 
-pub name-left : (t q m : List ℕ) (x : Order) → x ≡ headed (spaced t) q → x ≡ Equal → spaced (drop (length q) t) ≡ m →
+pub name-leaves : (t q m : List ℕ) (x : Order) → x ≡ headed (spaced t) q → x ≡ Equal → spaced (drop (length q) t) ≡ m →
     cmp m [] ≡ cmp (spaced t) q
-name-left t q m x e f g =
-    ap (λ (y : List ℕ). cmp y []) (sym g) ∙ parts-left t q [] x e f ∙ ap (λ (y : List ℕ). cmp (spaced t) y) (append-nil q)
+name-leaves t q m x e f g =
+    ap (λ (y : List ℕ). cmp y []) (sym g) ∙ first-leaves t q [] x e f ∙ ap (λ (y : List ℕ). cmp (spaced t) y) (append-nil q)

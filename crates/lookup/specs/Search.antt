@@ -29,13 +29,13 @@ placeIn s (at ∷ places) q = pick (sameText (key (lineAt s at)) q) (At at) (pla
 unfoldable pub placeOf : List ℕ → ℕ → List ℕ → Found
 placeOf s letter name = placeIn s (startsOf s) (keyOf letter name)
 
--- which of three a line's order to the question chooses: the lines above it, the line, the lines below it
+-- where to look on by the order of a line and the question: among the lines above it, at the line, among the lines below it
 abbrev pub judge : Order → Found → Found → Found → Found
 judge Less up here down = up
 judge Equal up here down = here
 judge Greater up here down = down
 
--- the same, asked in at most k rounds, each of which compares one line
+-- the line with the key q, asked in at most k rounds, each of which compares one line: the middle one of those left
 unfoldable pub asked : ℕ → List ℕ → List ℕ → List ℕ → Found
 asked zero s places q = Nothing
 asked (suc k) s places q =
@@ -54,7 +54,7 @@ abbrev pub answerAt : List ℕ → Found → Reply
 answerAt s Nothing = unknown
 answerAt s (At at) = told (lineAt s at .value)
 
--- a line of the question begins at byte `at`, and is a form
+-- a line of the question begins at byte `at`, and is a form: its name from byte at + 3 on, its value 2 bytes behind the name
 pub record Stands (s : List ℕ) (letter : ℕ) (name : List ℕ) (at : ℕ) : Type 0 where
   pub line : List·Memᴰ at (startsOf s)
   pub form : isForm (drop at s) ≡ true

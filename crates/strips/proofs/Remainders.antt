@@ -20,6 +20,7 @@ use Rattle.strips.specs.declared.suffix.Rests.{Rests}
 use Rattle.strips.specs.declared.prefix.Rest.the-variants.{Nothing, From}
 use Rattle.strips.specs.Suffix.{firstLength, firstCharacter, sheds, isLong, without, plain, shared, remainders, plainLength, sharedLength, restsOf, fronts}
 use Rattle.strips.specs.Prefix.{leastAfter, after, leaves, prefixRemainder, restOf, behind}
+use Rattle.strips.proofs.Returns.{begins-length}
 use Rattle.strips.proofs.Parts.{utf8-front, utf8-back, utf8-join}
 use Rattle.strips.proofs.First.{first-utf8, first-less}
 
@@ -84,24 +85,43 @@ shared-nowhere piece suffix h = rw h (go (sheds piece suffix))
     go true = refl
     go false = refl
 
+-- what the code gives, by the two tests
+abbrev rests : List ℕ → List ℕ → Bool → Bool → Rests
+rests piece suffix a b =
+    pick a
+    (pick b
+    (record { count = 2; plain = plainLength piece suffix; shared = sharedLength piece suffix })
+    (record { count = 1; plain = plainLength piece suffix; shared = 0 }))
+    (record { count = 0; plain = 0; shared = 0 })
+
 -- the lengths that the code gives say the remainders
 pub rests-say : (piece suffix : List ℕ) → fronts piece (restsOf piece suffix) ≡ remainders piece suffix
 unfolding restsOf remainders plain shared
 rests-say piece suffix = go (sheds piece suffix) (isLong suffix) refl
   where
-    rests : Bool → Bool → Rests
-    rests a b =
-        pick a
-        (pick b
-        (record { count = 2; plain = plainLength piece suffix; shared = sharedLength piece suffix })
-        (record { count = 1; plain = plainLength piece suffix; shared = 0 }))
-        (record { count = 0; plain = 0; shared = 0 })
-
-    go : (a b : Bool) → sheds piece suffix ≡ a → fronts piece (rests a b)
+    go : (a b : Bool) → sheds piece suffix ≡ a
+        → fronts piece (rests piece suffix a b)
         ≡ pick a (without piece suffix ∷ []) [] ++ pick (a && b) ((without piece suffix ++ firstCharacter suffix) ∷ []) []
     go true true e = ap (λ (t : List ℕ). without piece suffix ∷ t ∷ []) (sym (shared-front piece suffix e))
     go true false e = refl
     go false b e = refl
+
+-- they lie inside the piece, so that it can be cut by them
+pub record Inside (piece : List ℕ) (r : Rests) : Type 0 where
+  pub few : r .count ≤ 2
+  pub plain-in : r .plain ≤ length piece
+  pub shared-in : r .shared ≤ length piece
+
+pub rests-inside : (piece suffix : List ℕ) → Inside piece (restsOf piece suffix)
+unfolding restsOf
+rests-inside piece suffix = go (sheds piece suffix) (isLong suffix) refl refl
+  where
+    go : (a b : Bool) → sheds piece suffix ≡ a → isLong suffix ≡ b → Inside piece (rests piece suffix a b)
+    go true true e h =
+        let l = shared-less piece suffix e h in
+        record { few = omega arith; plain-in = omega arith; shared-in = omega arith }
+    go true false e h = record { few = omega arith; plain-in = omega arith; shared-in = omega arith }
+    go false b e h = record { few = omega arith; plain-in = omega arith; shared-in = omega arith }
 
 -- UTF-8 pieces and suffixes leave UTF-8
 pub plain-utf8 : (piece suffix : List ℕ) → sheds piece suffix ≡ true → isUtf8 piece ≡ true → isUtf8 suffix ≡ true
@@ -154,3 +174,14 @@ rest-says piece form = go (leaves piece form)
     go : (b : Bool) → behind piece (pick b (From (length form)) Nothing) ≡ pick b (after piece form ∷ []) []
     go true = refl
     go false = refl
+
+pub rest-inside : (piece form : List ℕ) (n : ℕ) → restOf piece form ≡ From n → n ≤ length piece
+unfolding restOf
+rest-inside piece form n e = go (leaves piece form) refl e
+  where
+    go : (b : Bool) → leaves piece form ≡ b → pick b (From (length form)) Nothing ≡ From n → n ≤ length piece
+    go true l q =
+        let h = begins-length form piece (leaves-begins piece form l) in
+        let z : length form ≡ n = cc in
+        omega arith
+    go false l q = let z : _≡_ {A = ℕ} 0 1 = cc in absurd (omega arith)

@@ -1,10 +1,11 @@
 -- What holds of every row of a table, each fact by one computed test over the whole table. The crates that strip prefixes and
 -- suffixes, rank readings and bound their number cite these laws. Assumes nothing.
-use mathlib.Core.Path.{_≡_, refl, sym}
+use mathlib.Core.Path.{_≡_, refl, ap, sym, _∙_}
 use mathlib.Core.Bool.{Bool, true, false, not, _&&_, _||_}
-use mathlib.Core.List.{List, [], _∷_}
-use Prim.Native.Nat.{ℕ, _≤_, _<_}
-use lib.ListN.{length, take, getD}
+use mathlib.Core.List.{List, [], _∷_, _++_, append-assoc}
+use Prim.Native.Nat.{ℕ, _+_, _≤_, _<_}
+use lib.ListN.{length, take, getD, List·getD-append}
+use lib.Seq.{getD-append-add}
 use lib.Dec.{eqb, leb, ltb}
 use borrow.Author.Tests.{eqb-true, leb-true, ltb-true, not-true}
 use Rattle.runs.specs.Runs.{cmp}
@@ -46,6 +47,23 @@ origin-word-count = refl
 pub origin-tag-count : length originTags ≡ 79
 unfolding originTags
 origin-tag-count = refl
+
+-- The three groups of the 25 texts, each in its own table's order.
+
+pub affix-plural : (k : ℕ) → k < 2 → getD affixes k [] ≡ getD pluralMarkers k []
+unfolding affixes pluralMarkers
+affix-plural k h = List·getD-append pluralMarkers (caseMarkers ++ particles) [] k h
+
+pub affix-case : (k : ℕ) → k < 16 → getD affixes (2 + k) [] ≡ getD caseMarkers k []
+unfolding affixes pluralMarkers caseMarkers
+affix-case k h =
+    getD-append-add pluralMarkers (caseMarkers ++ particles) k [] ∙ List·getD-append caseMarkers particles [] k h
+
+pub affix-particle : (k : ℕ) → getD affixes (18 + k) [] ≡ getD particles k []
+unfolding affixes pluralMarkers caseMarkers
+affix-particle k =
+    ap (λ (l : List (List ℕ)). getD l (18 + k) []) (sym (append-assoc pluralMarkers caseMarkers particles))
+    ∙ getD-append-add (pluralMarkers ++ caseMarkers) particles k []
 
 -- Every row is UTF-8, of at most so many bytes, and begins with a character of three bytes; so none is empty.
 

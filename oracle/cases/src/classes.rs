@@ -215,7 +215,10 @@ fn name_length(random: &mut Random) -> Case {
 /// A good sheet of 65,530 to 65,540 bytes, at times with a fault in its last line.
 fn sheet_length(random: &mut Random) -> Case {
     let word = words::suffix_stack(random);
-    let length = random.range(SHEET_LIMIT - 6, SHEET_LIMIT + 4);
+    let length = match random.below(2) {
+        0 => random.range(SHEET_LIMIT - 1, SHEET_LIMIT + 1),
+        _ => random.range(SHEET_LIMIT - 6, SHEET_LIMIT + 4),
+    };
     let mut sheet = of_length(random, &word, length);
     if random.chance(20) {
         let last = sheet.len() - 1;

@@ -9,7 +9,6 @@ use lib.Seq.{length-take-le, take-all}
 use borrow.Author.Needs.{needs}
 use Rattle.runs.specs.Runs.{cmp}
 use Rattle.runs.proofs.Ordered.{cmp-first, parts-decided}
-use borrow.Author.Needs.{needs}
 use Rattle.runs.proofs.compare_parts.Statement.{statement}
 use Rattle.runs.proofs.compare_parts.Tie as tie
 

@@ -4,7 +4,6 @@ use mathlib.Core.Path.{sym, _∙_}
 use borrow.Author.Needs.{needs}
 use Rattle.runs.proofs.Begins.{begins-same}
 use Rattle.runs.proofs.Ends.{same-lengths}
-use borrow.Author.Needs.{needs}
 use Rattle.runs.proofs.same.Statement.{statement}
 use Rattle.runs.proofs.same.Tie as tie
 

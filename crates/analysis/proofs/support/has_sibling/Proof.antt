@@ -8,7 +8,7 @@ use Rattle.tables.specs.Tables.{affixes}
 use Rattle.tables.proofs.Facts.{affix-count}
 use Rattle.tables.proofs.Laid.{laid-asks, laid-row}
 use Rattle.sheet.specs.Replies.{reply}
-use Rattle.analysis.specs.Support.{isKnown, knownWith}
+use Rattle.paths.specs.Support.{isKnown, knownWith}
 use Rattle.analysis.proofs.Siblings.{known-here, known-next, known-end}
 use Rattle.analysis.proofs.support.has_sibling.Statement.{statement}
 use Rattle.analysis.proofs.support.has_sibling.Tie as tie

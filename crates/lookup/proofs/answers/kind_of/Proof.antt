@@ -1,20 +1,20 @@
 -- `answers::kind_of` meets its contract: the kind that the value spells.
 -- Assumes nothing.
 use mathlib.Core.Path.{ap}
-use mathlib.Core.List.{append-nil}
 use borrow.Author.Needs.{needs}
 use borrow.Author.Tests.{not-true, not-false}
 use Rattle.lookup.specs.Answers.{ValueOf, kindTold, kindFor}
-use Rattle.lookup.proofs.Parts.{unread, kind-read}
-use borrow.Author.Needs.{needs}
+use Rattle.lookup.proofs.Parts.{one-part, unread, kind-read}
 use Rattle.lookup.proofs.answers.kind_of.Statement.{statement}
 use Rattle.lookup.proofs.answers.kind_of.Tie as tie
 
--- a name and nothing behind it is the name
+-- what is said of the value found
 value : (c : tie.After-value-of) →
     let a = c .before .before .before .before .before .args in
     ValueOf (a .sheet .now) 0x6B (a .name .now) (c .value-of .result)
-value c = rw append-nil at (c .value-of .ensures)
+value c =
+    let a = c .before .before .before .before .before .args in
+    one-part (a .sheet .now) 0x6B (a .name .now) _ (c .value-of .ensures)
 
 slice-aggregate-value-of : tie.Need-slice-aggregate-value-of
 slice-aggregate-value-of c = search needs

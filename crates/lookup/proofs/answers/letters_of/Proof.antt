@@ -6,7 +6,6 @@ use borrow.Author.Needs.{needs}
 use borrow.Author.Tests.{not-true, not-false}
 use Rattle.sheet.specs.Replies.{lettersTold, lettersFor}
 use Rattle.lookup.proofs.Parts.{unread, read}
-use borrow.Author.Needs.{needs}
 use Rattle.lookup.proofs.answers.letters_of.Statement.{statement}
 use Rattle.lookup.proofs.answers.letters_of.Tie as tie
 

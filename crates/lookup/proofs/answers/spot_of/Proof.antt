@@ -7,7 +7,6 @@ use borrow.Author.Needs.{needs}
 use Rattle.lookup.specs.Search.{Sought}
 use Rattle.lookup.specs.declared.search.Found.the-variants.{At}
 use Rattle.lookup.proofs.Parts.{no-name, some-name, found-room}
-use borrow.Author.Needs.{needs}
 use Rattle.lookup.proofs.answers.spot_of.Statement.{statement}
 use Rattle.lookup.proofs.answers.spot_of.Tie as tie
 

@@ -8,7 +8,6 @@ use borrow.Author.Needs.{needs}
 use Rattle.lookup.specs.Search.{Sought}
 use Rattle.lookup.specs.declared.search.Found.the-variants.{At}
 use Rattle.lookup.proofs.Parts.{no-value, some-value, found-room}
-use borrow.Author.Needs.{needs}
 use Rattle.lookup.proofs.answers.value_of.Statement.{statement}
 use Rattle.lookup.proofs.answers.value_of.Tie as tie
 

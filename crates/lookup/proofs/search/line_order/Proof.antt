@@ -11,7 +11,6 @@ use borrow.Author.Needs.{needs}
 use Rattle.runs.specs.Runs.{cmp}
 use Rattle.lookup.specs.Starts.{spaced}
 use Rattle.lookup.proofs.Forms.{line-room, line-less, line-greater, line-same}
-use borrow.Author.Needs.{needs}
 use Rattle.lookup.proofs.search.line_order.Statement.{statement}
 use Rattle.lookup.proofs.search.line_order.Tie as tie
 

@@ -3,8 +3,7 @@
 use native.Mathlib.Omega.{arith}
 use lib.ListN.{length}
 use borrow.Author.Needs.{needs}
-use Rattle.lookup.proofs.Upto.{spaced-past, spaced-none, spaced-cons, name-decided, name-left}
-use borrow.Author.Needs.{needs}
+use Rattle.lookup.proofs.Upto.{spaced-past, spaced-none, spaced-cons, name-decides, name-leaves}
 use Rattle.lookup.proofs.search.name_order.Statement.{statement}
 use Rattle.lookup.proofs.search.name_order.Tie as tie
 
@@ -25,7 +24,7 @@ returns c =
     let e = c .before in
     let d = e .before .before in
     let a = d .before .before .before .args in
-    name-left (a .t .now) (a .q .now) _ _ (d .along .ensures) (e .enum-told3 .given .1) (spaced-past (a .t .now) _ (c .if1 .taken))
+    name-leaves (a .t .now) (a .q .now) _ _ (d .along .ensures) (e .enum-told3 .given .1) (spaced-past (a .t .now) _ (c .if1 .taken))
 
 shared-slice-read-if2 : tie.Need-shared-slice-read-if2
 shared-slice-read-if2 c = search needs
@@ -35,26 +34,26 @@ returns-2 c =
     let e = c .before .before .before in
     let d = e .before .before in
     let a = d .before .before .before .args in
-    name-left (a .t .now) (a .q .now) _ _ (d .along .ensures) (e .enum-told3 .given .1) (spaced-none (a .t .now) _ (omega arith) (c .if2 .taken))
+    name-leaves (a .t .now) (a .q .now) _ _ (d .along .ensures) (e .enum-told3 .given .1) (spaced-none (a .t .now) _ (omega arith) (c .if2 .taken))
 
 returns-3 : tie.Need-returns-3
 returns-3 c =
     let d = c .before .before in
     let a = d .before .before .before .args in
-    name-decided (a .t .now) (a .q .now) _ _ (d .along .ensures) (c .enum-told .given .1)
+    name-decides (a .t .now) (a .q .now) _ _ (d .along .ensures) (c .enum-told .given .1)
 
 returns-4 : tie.Need-returns-4
 returns-4 c =
     let d = c .before .before in
     let a = d .before .before .before .args in
-    name-decided (a .t .now) (a .q .now) _ _ (d .along .ensures) (c .enum-told2 .given .1)
+    name-decides (a .t .now) (a .q .now) _ _ (d .along .ensures) (c .enum-told2 .given .1)
 
 returns-5 : tie.Need-returns-5
 returns-5 c =
     let e = c .before .before .before in
     let d = e .before .before in
     let a = d .before .before .before .args in
-    name-left (a .t .now) (a .q .now) _ _ (d .along .ensures) (e .enum-told3 .given .1)
+    name-leaves (a .t .now) (a .q .now) _ _ (d .along .ensures) (e .enum-told3 .given .1)
     (spaced-cons (a .t .now) (length (a .q .now)) (omega arith) (c .if2 .left))
 
 pub name-order-spec : {M : Type 1} → statement M

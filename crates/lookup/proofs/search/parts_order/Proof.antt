@@ -9,8 +9,7 @@ use lib.Seq.{take-all}
 use borrow.Author.Needs.{needs}
 use Rattle.runs.specs.Runs.{cmp}
 use Rattle.lookup.specs.Starts.{spaced}
-use Rattle.lookup.proofs.Upto.{parts-decided, parts-left, head-fits, spaced-le}
-use borrow.Author.Needs.{needs}
+use Rattle.lookup.proofs.Upto.{first-decides, first-leaves, head-fits, spaced-le}
 use Rattle.lookup.proofs.search.parts_order.Statement.{statement}
 use Rattle.lookup.proofs.search.parts_order.Tie as tie
 
@@ -52,13 +51,13 @@ returns : tie.Need-returns
 returns c =
     let d = c .before .before in
     let a = d .before .before .before .before .args in
-    parts-decided (a .t .now) (a .p .now) (a .q .now) _ _ (d .along .ensures) (c .enum-told .given .1)
+    first-decides (a .t .now) (a .p .now) (a .q .now) _ _ (d .along .ensures) (c .enum-told .given .1)
 
 returns-2 : tie.Need-returns-2
 returns-2 c =
     let d = c .before .before in
     let a = d .before .before .before .before .args in
-    parts-decided (a .t .now) (a .p .now) (a .q .now) _ _ (d .along .ensures) (c .enum-told2 .given .1)
+    first-decides (a .t .now) (a .p .now) (a .q .now) _ _ (d .along .ensures) (c .enum-told2 .given .1)
 
 returns-3 : tie.Need-returns-3
 returns-3 c =
@@ -68,7 +67,7 @@ returns-3 c =
     let n = length (a .p .now) in
     let h : length (drop n (a .t .now)) ≤ length (a .t .now) - n = simp length-drop (omega arith) in
     c .name-order .ensures ∙ ap (λ (l : List ℕ). cmp (spaced l) (a .q .now)) (take-all _ _ h)
-    ∙ parts-left (a .t .now) (a .p .now) (a .q .now) _ (d .along .ensures) (e .enum-told3 .given .1)
+    ∙ first-leaves (a .t .now) (a .p .now) (a .q .now) _ (d .along .ensures) (e .enum-told3 .given .1)
 
 pub parts-order-spec : {M : Type 1} → statement M
 parts-order-spec =

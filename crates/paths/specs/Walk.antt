@@ -11,10 +11,10 @@ use Rattle.sheet.specs.Replies.{Ask}
 use Rattle.progressive.specs.Progressive.{isProgressive}
 use Rattle.ranking.specs.declared.Segment.{Segment}
 use Rattle.ranking.specs.declared.Reading.{Reading}
-use Rattle.analysis.specs.Support.{isSupported, scoreOf}
-use Rattle.analysis.specs.Chains.{Strip, textOf, leftBy, allRows, rowsAfter, formOf}
-use Rattle.analysis.specs.Readings.{kindOf, segmentOf, noSegment, filled}
-use Rattle.analysis.specs.declared.Chain.{Chain}
+use Rattle.paths.specs.Support.{isSupported, scoreOf}
+use Rattle.paths.specs.Chains.{Strip, textOf, leftBy, allRows, rowsAfter, formOf}
+use Rattle.paths.specs.Readings.{kindOf, segmentOf, noSegment, filled}
+use Rattle.paths.specs.declared.Chain.{Chain}
 
 -- no suffix stripped yet
 abbrev pub emptyChain : Chain

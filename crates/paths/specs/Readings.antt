@@ -18,8 +18,8 @@ use Rattle.ranking.specs.declared.AffixKind.{AffixKind}
 use Rattle.ranking.specs.declared.AffixKind.the-variants.{Particle, CaseMarker, PluralMarker, Postposition, ComparisonMarker}
 use Rattle.ranking.specs.declared.Segment.{Segment}
 use Rattle.ranking.specs.declared.Reading.{Reading}
-use Rattle.analysis.specs.Support.{scoreOf}
-use Rattle.analysis.specs.Chains.{Strip, textOf, Route, PathOf}
+use Rattle.paths.specs.Support.{scoreOf}
+use Rattle.paths.specs.Chains.{Strip, textOf, Route, PathOf}
 
 -- the four parts by which readings are told apart: suffix labels stand nearest the stem first, prefix labels outermost first
 pub record Parts : Type 0 where

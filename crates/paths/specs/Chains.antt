@@ -13,7 +13,7 @@ use Rattle.strips.specs.Suffix.{plain, shared}
 use Rattle.strips.specs.Prefix.{prefixRemainder}
 use Rattle.sheet.specs.Replies.{Ask}
 use Rattle.progressive.specs.Progressive.{isProgressive}
-use Rattle.analysis.specs.Support.{isSupported}
+use Rattle.paths.specs.Support.{isSupported}
 
 -- a strip: the row of its text among the 25 (plural markers 0 and 1, case markers 2 to 17, particles 18 to 24), and whether its
 -- first character is shared

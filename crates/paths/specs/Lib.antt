@@ -1,0 +1,4 @@
+pub mod Support
+pub mod Chains
+pub mod Readings
+pub mod Walk
