@@ -1,2 +1,3 @@
 // Readings of a word: what the strip rules allow and the sheet supports.
+pub mod roots;
 pub mod support;
