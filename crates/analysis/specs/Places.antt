@@ -17,11 +17,12 @@ abbrev pub rootFound : Ask → ℕ → Chain → List ℕ → ℕ → ℕ → Li
 rootFound ask surface c w e b rows count =
     pick (isSupported ask (between w b e))
     (record {
-        stem = e;
-        root = b;
-        score = scoreOf ask surface (between w b e) count (c .count);
-        prefixes = rows;
-        segments = c .segments;
-        «prefix_count» = count;
-        «suffix_count» = c .count } ∷ [])
+      stem = e;
+      root = b;
+      score = scoreOf ask surface (between w b e) count (c .count);
+      prefixes = rows;
+      segments = c .segments;
+      «prefix_count» = count;
+      «suffix_count» = c .count;
+    } ∷ [])
     []

@@ -10,10 +10,11 @@ use Rattle.analysis.specs.declared.support.Support.{Support}
 
 abbrev pub supportOf : Ask → List ℕ → Support
 supportOf ask root = record {
-    word = lettersBy ask root .word;
-    head = lettersBy ask root .head;
-    sibling = hasSibling ask root;
-    progressive = isProgressive ask root }
+  word = lettersBy ask root .word;
+  head = lettersBy ask root .head;
+  sibling = hasSibling ask root;
+  progressive = isProgressive ask root;
+}
 
 -- the score of a support, which is that of its root
 abbrev pub scoreFrom : ℕ → Support → ℕ → ℕ → ℕ

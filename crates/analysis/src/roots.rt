@@ -1,8 +1,13 @@
 // A reading for a stem and a root, where the root is supported.
-use crate::support::{Support, is_supported, score, support_of};
+use crate::support::Support;
+use crate::support::is_supported;
+use crate::support::score;
+use crate::support::support_of;
 use lookup::starts::Start;
 use paths::Chain;
-use ranking::{Found, Reading, add};
+use ranking::Found;
+use ranking::Reading;
+use ranking::add;
 ghost use mathlib.Core.Path.{_≡_};
 ghost use Prim.Native.Nat.{_-_, _≤_};
 ghost use lib.ListN.{length, take, drop};

@@ -89,7 +89,14 @@ pub fn is_supported(s: Support, len: usize) -> bool
 }
 
 // What the sheet says of a root; whether it is a supported progressive form is known already.
-pub fn support_of(sheet: &[u8], starts: &[Start], texts: &[u8], cuts: &[u16], root: &[u8], progressive: bool) -> Support
+pub fn support_of(
+    sheet: &[u8],
+    starts: &[Start],
+    texts: &[u8],
+    cuts: &[u16],
+    root: &[u8],
+    progressive: bool,
+) -> Support
     requires { ⌜ Indexed (now sheet) (now starts) × Laid affixes (now texts) (now cuts) × (progressive ≡ isProgressive (reply (now sheet)) (now root)) ⌝ }
     ensures { λ r. ⌜ r ≡ supportOf (reply (now (sheet .entry))) (now (root .entry)) ⌝ }
 {

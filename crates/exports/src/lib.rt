@@ -1,6 +1,8 @@
 // The static library's functions: what Rust and C call. They take numbers and slices of numbers alone.
-use sheet::check::{SheetCheck, check_sheet};
-use text::word::{WordCheck, check_word};
+use sheet::check::SheetCheck;
+use sheet::check::check_sheet;
+use text::word::WordCheck;
+use text::word::check_word;
 ghost use mathlib.Core.Path.{_≡_};
 ghost use Rattle.text.specs.Word.{wordCheck, wordNumber};
 ghost use Rattle.sheet.specs.Lines.{sheetCheck};

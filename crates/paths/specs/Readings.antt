@@ -65,10 +65,11 @@ filled n d xs = take n (xs ++ replicate n d)
 -- the record of a path: the stem is a front part of the word, and the root what ends it
 unfoldable pub readingOf : Ask → List ℕ → Route → Reading
 readingOf ask w p = record {
-    stem = length (p .stem);
-    root = length (p .stem) - length (p .root);
-    score = scoreOf ask (chars w) (p .root) (length (p .prefixRows)) (length (p .strips));
-    prefixes = filled 2 0 (p .prefixRows);
-    segments = filled 4 noSegment (reverse (map (segmentOf ask) (p .strips)));
-    «prefix_count» = length (p .prefixRows);
-    «suffix_count» = length (p .strips) }
+  stem = length (p .stem);
+  root = length (p .stem) - length (p .root);
+  score = scoreOf ask (chars w) (p .root) (length (p .prefixRows)) (length (p .strips));
+  prefixes = filled 2 0 (p .prefixRows);
+  segments = filled 4 noSegment (reverse (map (segmentOf ask) (p .strips)));
+  «prefix_count» = length (p .prefixRows);
+  «suffix_count» = length (p .strips);
+}

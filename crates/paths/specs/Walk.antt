@@ -23,19 +23,21 @@ emptyChain = record { segments = noSegment ∷ noSegment ∷ noSegment ∷ noSeg
 -- one suffix more: it stands nearer the stem than those before it
 abbrev pub pushedOf : Chain → Segment → Chain
 pushedOf c s = record {
-    segments = s ∷ getD (c .segments) 0 noSegment ∷ getD (c .segments) 1 noSegment ∷ getD (c .segments) 2 noSegment ∷ [];
-    count = c .count + 1 }
+  segments = s ∷ getD (c .segments) 0 noSegment ∷ getD (c .segments) 1 noSegment ∷ getD (c .segments) 2 noSegment ∷ [];
+  count = c .count + 1;
+}
 
 -- the record of a stem and a root with their affixes
 abbrev pub recordOf : Ask → ℕ → Chain → List ℕ → List ℕ → List ℕ → Reading
 recordOf ask surface c stem rows root = record {
-    stem = length stem;
-    root = length stem - length root;
-    score = scoreOf ask surface root (length rows) (c .count);
-    prefixes = filled 2 0 rows;
-    segments = c .segments;
-    «prefix_count» = length rows;
-    «suffix_count» = c .count }
+  stem = length stem;
+  root = length stem - length root;
+  score = scoreOf ask surface root (length rows) (c .count);
+  prefixes = filled 2 0 rows;
+  segments = c .segments;
+  «prefix_count» = length rows;
+  «suffix_count» = c .count;
+}
 
 -- the reading with this root, where the root is supported
 unfoldable pub rootWalk : Ask → ℕ → Chain → List ℕ → List ℕ → List ℕ → List Reading

@@ -11,10 +11,13 @@ use Rattle.sheet.specs.Replies.{Reply, unknown, told, Ask, lettersBy}
 -- रहेको, रहेकी and रहेका, one of which ends the word: रहेक and one more sign
 abbrev pub rahek : List ℕ
 rahek = 0xE0 ∷ 0xA4 ∷ 0xB0 ∷ 0xE0 ∷ 0xA4 ∷ 0xB9 ∷ 0xE0 ∷ 0xA5 ∷ 0x87 ∷ 0xE0 ∷ 0xA4 ∷ 0x95 ∷ []
+
 abbrev pub raheko : List ℕ
 raheko = rahek ++ (0xE0 ∷ 0xA5 ∷ 0x8B ∷ [])
+
 abbrev pub raheki : List ℕ
 raheki = rahek ++ (0xE0 ∷ 0xA5 ∷ 0x80 ∷ [])
+
 abbrev pub raheka : List ℕ
 raheka = rahek ++ (0xE0 ∷ 0xA4 ∷ 0xBE ∷ [])
 
@@ -25,12 +28,16 @@ rahanu = 0xE0 ∷ 0xA4 ∷ 0xB0 ∷ 0xE0 ∷ 0xA4 ∷ 0xB9 ∷ 0xE0 ∷ 0xA4 ∷
 -- ्, ा, आ, उ and न
 abbrev pub virama : List ℕ
 virama = 0xE0 ∷ 0xA5 ∷ 0x8D ∷ []
+
 abbrev pub signAA : List ℕ
 signAA = 0xE0 ∷ 0xA4 ∷ 0xBE ∷ []
+
 abbrev pub letterAA : List ℕ
 letterAA = 0xE0 ∷ 0xA4 ∷ 0x86 ∷ []
+
 abbrev pub letterU : List ℕ
 letterU = 0xE0 ∷ 0xA4 ∷ 0x89 ∷ []
+
 abbrev pub letterNa : List ℕ
 letterNa = 0xE0 ∷ 0xA4 ∷ 0xA8 ∷ []
 

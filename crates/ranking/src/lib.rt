@@ -1,5 +1,6 @@
 // Readings of a word, and their list by value: at most 64, in rank order.
-use runs::{Order, compare};
+use runs::Order;
+use runs::compare;
 ghost use mathlib.Core.Path.{_≡_};
 ghost use mathlib.Core.List.{List, [], _∷_};
 ghost use Prim.Native.Nat.{_+_, _≤_, _<_};
@@ -9,7 +10,6 @@ ghost use Rattle.runs.specs.Runs.{cmp};
 ghost use Rattle.ranking.specs.Rank.{isLess, rootText, aheadOf};
 ghost use Rattle.ranking.specs.Lists.{listLimit, rowsOf, rows, plus, foundOf};
 ghost use Rattle.ranking.specs.Places.{placeIn, putIn};
-
 
 // The kind of a suffix.
 pub enum AffixKind {

@@ -25,9 +25,10 @@ front t = take (nameRun t) t
 -- next space and parenthesis
 unfoldable pub entryOf : List ℕ → Entry
 entryOf t = record {
-    letter = getD t 1 0;
-    name = front (drop 3 t);
-    value = front (drop 2 (drop (nameRun (drop 3 t)) (drop 3 t))) }
+  letter = getD t 1 0;
+  name = front (drop 3 t);
+  value = front (drop 2 (drop (nameRun (drop 3 t)) (drop 3 t)));
+}
 
 -- the line that says an entry, with its 0A
 unfoldable pub written : Entry → List ℕ
@@ -44,8 +45,10 @@ isKind s = sameText s (0x70 ∷ 0x6F ∷ 0x73 ∷ 0x74 ∷ []) || sameText s (0x
 -- ि and इ, one of which ends a link; नु, which ends an infinitive
 abbrev pub signI : List ℕ
 signI = 0xE0 ∷ 0xA4 ∷ 0xBF ∷ []
+
 abbrev pub letterI : List ℕ
 letterI = 0xE0 ∷ 0xA4 ∷ 0x87 ∷ []
+
 abbrev pub syllableNu : List ℕ
 syllableNu = 0xE0 ∷ 0xA4 ∷ 0xA8 ∷ 0xE0 ∷ 0xA5 ∷ 0x81 ∷ []
 

@@ -40,12 +40,13 @@ afterFlags s = past 0x65 (past 0x70 (past 0x76 (past 0x68 (past 0x77 s))))
 -- the letters that s spells
 unfoldable pub lettersOf : List ℕ → Letters
 lettersOf s = record {
-    word = has 0x77 s;
-    head = has 0x68 (past 0x77 s);
-    verb = has 0x76 (past 0x68 (past 0x77 s));
-    pronoun = has 0x70 (past 0x76 (past 0x68 (past 0x77 s)));
-    spelled = has 0x65 (past 0x70 (past 0x76 (past 0x68 (past 0x77 s))));
-    tag = tagOf (afterFlags s) }
+  word = has 0x77 s;
+  head = has 0x68 (past 0x77 s);
+  verb = has 0x76 (past 0x68 (past 0x77 s));
+  pronoun = has 0x70 (past 0x76 (past 0x68 (past 0x77 s)));
+  spelled = has 0x65 (past 0x70 (past 0x76 (past 0x68 (past 0x77 s))));
+  tag = tagOf (afterFlags s);
+}
 
 -- at least w or h; every other letter needs h, and e needs p
 unfoldable pub wellKept : Letters → Bool

@@ -1,6 +1,8 @@
 // Which sheets are accepted.
-use crate::line::{Cursor, Line};
-use runs::{Order, compare};
+use crate::line::Cursor;
+use crate::line::Line;
+use runs::Order;
+use runs::compare;
 ghost use mathlib.Core.Path.{_≡_};
 ghost use Prim.Native.Nat.{_-_, _≤_};
 ghost use lib.ListN.{length, take, drop};
@@ -50,7 +52,11 @@ pub fn check_sheet(s: &[u8]) -> SheetCheck
             Line::NoForm => {
                 return SheetCheck::NoForm(at);
             }
-            Line::Form { name_end, value_end: _, next } => {
+            Line::Form {
+                name_end,
+                value_end: _,
+                next,
+            } => {
                 let first = at + 1;
                 if !rises(s, from, end, first, name_end) {
                     return SheetCheck::NotAbove(at);

@@ -1,7 +1,9 @@
 // The reader of the sheet: from line to line, its place going in and coming back.
 use crate::letters::are_letters;
 use crate::name::read_name;
-use runs::{begins_with, ends_with, same};
+use runs::begins_with;
+use runs::ends_with;
+use runs::same;
 ghost use mathlib.Core.Path.{_≡_};
 ghost use mathlib.Core.Bool.{_||_};
 ghost use Prim.Native.Nat.{_≤_};
@@ -114,7 +116,12 @@ impl Cursor {
         if !begins_with(&s[value_end..], b"))\n") {
             return Line::NoForm;
         }
-        if !is_meant(letter, &s[from..name_end], &s[value_from..value_end], value.good) {
+        if !is_meant(
+            letter,
+            &s[from..name_end],
+            &s[value_from..value_end],
+            value.good,
+        ) {
             return Line::NoForm;
         }
         Line::Form {

@@ -1,6 +1,8 @@
 // Names of the sheet: SUFFIX, LINK, INFINITIVE and NAME of document 01.
 use text::names::is_forbidden;
-use text::utf8::{State, is_whole, next};
+use text::utf8::State;
+use text::utf8::is_whole;
+use text::utf8::next;
 ghost use mathlib.Core.Path.{_≡_};
 ghost use Prim.Native.Nat.{_+_, _≤_};
 ghost use lib.ListN.{length, drop};
@@ -76,10 +78,16 @@ pub fn read_name(s: &[u8], from: usize) -> NameRead
     while i < s.len() {
         let b = s[i];
         if is_forbidden(b) {
-            return NameRead { end: i, good: named(i - from, state) };
+            return NameRead {
+                end: i,
+                good: named(i - from, state),
+            };
         }
         state = next(state, b);
         i += 1;
     }
-    NameRead { end: i, good: named(i - from, state) }
+    NameRead {
+        end: i,
+        good: named(i - from, state),
+    }
 }

@@ -60,10 +60,12 @@ returns c =
     let a = k .before .args in
     let n = a .list .count in
     let l : length (a .list .rows) ≡ 64 = simp length-map at (k .before .good .0 .1 .1 .0 .1 .0 .1) in
-    let e : n ≡ k .loop .i = omega arith in
-    (carried-last (k .loop .next .rows) n (k .loop .carry) (omega arith)
-    ∙ ap (take (n + 1)) (ap (λ (j : ℕ). putIn (k .loop .next .rows) j (k .loop .carry)) e ∙ k .loop .inv .4)
-    ∙ put-front (a .list .rows) (a .at) n (a .r) (c .before .before .pre .0) (omega arith), refl)
+    let e : n ≡ k .loop .i = omega arith in (
+      carried-last (k .loop .next .rows) n (k .loop .carry) (omega arith)
+          ∙ ap (take (n + 1)) (ap (λ (j : ℕ). putIn (k .loop .next .rows) j (k .loop .carry)) e ∙ k .loop .inv .4)
+          ∙ put-front (a .list .rows) (a .at) n (a .r) (c .before .before .pre .0) (omega arith),
+      refl,
+    )
 
 pub insert-at-spec : {M : Type 1} → statement M
 insert-at-spec =

@@ -131,10 +131,14 @@ loop-again c =
     let l = r .before .before in
     let d = l .before .before .before in
     let n = l .line .given .0 .1 .1 .0 .at in
-    let rest = startsFrom true n (drop n (sheet-of d)) in
-    (omega (arith, told l .3, inside l), omega (arith, told l .2), omega (arith, told l .2, inside l), subst Spaced (sym (run-at l)) refl,
-    d .loop .inv .4 ∙ ap (judged (sheet-of d) _) (lines-at l) ∙ judged-on (sheet-of d) _ _ (d .loop .cursor .at) (told l .1) (sym (order-at r) ∙ not-false _ (c .if2 .left))
-    ∙ ap (λ (x : List ℕ). judged (sheet-of d) (keyFrom x) rest) (sym (run-at l)))
+    let rest = startsFrom true n (drop n (sheet-of d)) in (
+      omega (arith, told l .3, inside l),
+      omega (arith, told l .2),
+      omega (arith, told l .2, inside l),
+      subst Spaced (sym (run-at l)) refl,
+      d .loop .inv .4 ∙ ap (judged (sheet-of d) _) (lines-at l) ∙ judged-on (sheet-of d) _ _ (d .loop .cursor .at) (told l .1) (sym (order-at r) ∙ not-false _ (c .if2 .left))
+          ∙ ap (λ (x : List ℕ). judged (sheet-of d) (keyFrom x) rest) (sym (run-at l)),
+    )
 
 pub check-sheet-spec : {M : Type 1} → statement M
 check-sheet-spec =

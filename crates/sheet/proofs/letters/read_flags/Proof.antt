@@ -29,13 +29,14 @@ returns c =
     let r = p .before in
     let h = r .before in
     let w = h .before in
-    let v = w .before .before .args .v .now in
-    (spelt v (w .skip .result) (h .skip2 .result) (r .skip3 .result) (p .skip4 .result) (e .skip5 .result)
-        (w .skip .ensures .0) (h .skip2 .ensures .0) (r .skip3 .ensures .0) (p .skip4 .ensures .0) (e .skip5 .ensures .0) (c .tag-at .result)
-        (w .skip .ensures .1) (h .skip2 .ensures .1) (r .skip3 .ensures .1) (p .skip4 .ensures .1) (e .skip5 .ensures .1) (c .tag-at .ensures),
-    to-e v (w .skip .result) (h .skip2 .result) (r .skip3 .result) (p .skip4 .result) (e .skip5 .result)
-        (w .skip .ensures .0) (h .skip2 .ensures .0) (r .skip3 .ensures .0) (p .skip4 .ensures .0) (e .skip5 .ensures .0),
-    e .skip5 .ensures .3)
+    let v = w .before .before .args .v .now in (
+      spelt v (w .skip .result) (h .skip2 .result) (r .skip3 .result) (p .skip4 .result) (e .skip5 .result)
+          (w .skip .ensures .0) (h .skip2 .ensures .0) (r .skip3 .ensures .0) (p .skip4 .ensures .0) (e .skip5 .ensures .0) (c .tag-at .result)
+          (w .skip .ensures .1) (h .skip2 .ensures .1) (r .skip3 .ensures .1) (p .skip4 .ensures .1) (e .skip5 .ensures .1) (c .tag-at .ensures),
+      to-e v (w .skip .result) (h .skip2 .result) (r .skip3 .result) (p .skip4 .result) (e .skip5 .result)
+          (w .skip .ensures .0) (h .skip2 .ensures .0) (r .skip3 .ensures .0) (p .skip4 .ensures .0) (e .skip5 .ensures .0),
+      e .skip5 .ensures .3,
+    )
 
 pub read-flags-spec : {M : Type 1} → statement M
 read-flags-spec = tie.close (tie.spec skip-requires skip-requires-2 skip-requires-3 skip-requires-4 skip-requires-5 tag-at-requires returns)

@@ -59,12 +59,13 @@ shared-slice-read-result c = search needs
 
 returns-6 : tie.Need-returns-6
 returns-6 c e = record {
-    room = omega arith;
-    first = omega arith;
-    second-low = omega arith;
-    second-high = omega arith;
-    third-low = omega arith;
-    third-high = leb-true _ _ e }
+  room = omega arith;
+  first = omega arith;
+  second-low = omega arith;
+  second-high = omega arith;
+  third-low = omega arith;
+  third-high = leb-true _ _ e;
+}
 
 pub three-at-spec : {M : Type 1} → statement M
 three-at-spec =

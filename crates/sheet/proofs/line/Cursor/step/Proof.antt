@@ -175,9 +175,9 @@ meaning-at c =
     let pe = name-read b .read-name .ensures .0 in
     let pf = b .before .before .before .read-name2 .ensures .0 in
     ap isMeant (same-entry (lineAt (sheet-of d) (at-of d)) _ _ _
-        (letter-at (sheet-of d) (at-of d) _ (head-of (name-read b .before)))
-        (name-is (sheet-of d) (at-of d) (name-end b) (value-end b) pe pf)
-        (value-is (sheet-of d) (at-of d) (name-end b) (value-end b) pe pf))
+    (letter-at (sheet-of d) (at-of d) _ (head-of (name-read b .before)))
+    (name-is (sheet-of d) (at-of d) (name-end b) (value-end b) pe pf)
+    (value-is (sheet-of d) (at-of d) (name-end b) (value-end b) pe pf))
     ∙ sym (c .is-meant .ensures)
 
 returns-6 : tie.Need-returns-6
