@@ -1,2 +1,3 @@
 pub mod Ranges
 pub mod Scan
+pub mod Grammar

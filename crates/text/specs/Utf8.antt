@@ -4,9 +4,10 @@
 -- `utf8Char` is that grammar's rows, `Octets` its sequences, and `isUtf8` the test that contracts cite, byte by byte;
 -- proofs/Grammar.antt shows that the test passes exactly for the grammar's sequences. Assumes nothing.
 use Prim.Native.Nat.{ℕ, suc}
+use mathlib.Core.Path.{_≡_}
 use mathlib.Core.Bool.{Bool, true, false, _&&_}
 use mathlib.Core.List.{List, [], _∷_, _++_, List·Memᴰ}
-use lib.Dec.{leb, T}
+use lib.Dec.{leb}
 use Rattle.runs.specs.Runs.{pick}
 
 -- the bytes from low to high, both included
@@ -39,16 +40,16 @@ utf8Char =
     []
 
 -- the bytes fit the row, one in each range
-abbrev pub Fits-row : List Range → List ℕ → Type 0
-Fits-row [] [] = Unit {0}
-Fits-row [] (b ∷ bs) = ⊥
-Fits-row (r ∷ rs) [] = ⊥
-Fits-row (r ∷ rs) (b ∷ bs) = T (within r b) × Fits-row rs bs
+abbrev pub FitsRow : List Range → List ℕ → Type 0
+FitsRow [] [] = Unit {0}
+FitsRow [] (b ∷ bs) = ⊥
+FitsRow (r ∷ rs) [] = ⊥
+FitsRow (r ∷ rs) (b ∷ bs) = (within r b ≡ true) × FitsRow rs bs
 
--- UTF8-octets: s is a sequence of n characters, each of which fits a row
+-- UTF8-octets: s is a sequence of n characters, each of which fits a row: nothing, or one such character before a sequence
 pub data Octets : List ℕ → ℕ → Type 0 where
   none : Octets [] 0
-  more : (row : List Range) (c s : List ℕ) (n : ℕ) → List·Memᴰ row utf8Char → Fits-row row c → Octets s n → Octets (c ++ s) (suc n)
+  more : (row : List Range) (c rest s : List ℕ) (n : ℕ) → s ≡ c ++ rest → List·Memᴰ row utf8Char → FitsRow row c → Octets rest n → Octets s (suc n)
 
 -- what a byte leaves to come: the ranges that the begun character still owes, none of them between characters; or it fits nowhere
 pub data Owed : Type 0 where

@@ -1,56 +1,72 @@
+-- `analysis::roots::with_root` meets its contract: the root's support decides, and its reading is added. Assumes nothing.
+use Prim.Native.Nat.{ℕ, _-_}
+use native.Mathlib.Omega.{arith}
+use borrow.Author.Tests.{not-true, not-false}
+use mathlib.Core.Path.{_≡_, sym, ap, _∙_}
+use lib.ListN.{length, take, drop}
+use Rattle.sheet.specs.Replies.{reply}
+use Rattle.paths.specs.Support.{isSupported, scoreOf}
+use Rattle.analysis.specs.Places.{between}
+use Rattle.analysis.specs.Supports.{supports, supportOf, scoreFrom}
+use Rattle.analysis.specs.declared.support.Support.{Support}
+use Rattle.analysis.proofs.Supported.{supports-is, score-is}
+use Rattle.analysis.proofs.Added.{no-root, one-root}
 use borrow.Author.Needs.{needs}
 use Rattle.analysis.proofs.roots.with_root.Statement.{statement}
 use Rattle.analysis.proofs.roots.with_root.Tie as tie
-use Rattle.analysis.proofs.roots.with_root.Reads as reads
-use Rattle.analysis.proofs.roots.with_root.Lts as lts
-use Rattle.analysis.proofs.support.is_supported.Reads as is-supported-reads
-use Rattle.analysis.proofs.support.score.Reads as score-reads
-use Rattle.analysis.proofs.support.support_of.Reads as support-of-reads
-use Rattle.ranking.proofs.add.Reads as add-reads
 
--- src/roots.rt:37:17
 sub-piece : tie.Need-sub-piece
 sub-piece c = search needs
 
--- src/roots.rt:37:17
 part-piece-start : tie.Need-part-piece-start
 part-piece-start c = search needs
 
--- src/roots.rt:37:17
 part-piece-end : tie.Need-part-piece-end
 part-piece-end c = search needs
 
--- src/roots.rt:38:9
 support-of-requires : tie.Need-support-of-requires
 support-of-requires c κs = search needs
 
--- src/roots.rt:39:9
 is-supported-requires : tie.Need-is-supported-requires
 is-supported-requires c κs = search needs
 
--- src/roots.rt:40:9
-returns : tie.Need-returns
-returns c = ?
+-- whether the root is supported
+tested : (c : tie.After-is-supported) → let a = c .before .before .before .before .before .before .before .before .args in
+    c .is-supported .result ≡ isSupported (reply (a .sheet .now)) (between (a .word .now) (a .root) (a .stem))
+tested c =
+    let s = c .before in
+    let a = s .before .before .before .before .before .before .before .args in
+    c .is-supported .ensures
+    ∙ ap (λ (x : Support). supports x (length (between (a .word .now) (a .root) (a .stem)))) (s .support-of .ensures)
+    ∙ supports-is (reply (a .sheet .now)) (between (a .word .now) (a .root) (a .stem))
 
--- src/roots.rt:45:15
+returns : tie.Need-returns
+returns c =
+    let a = c .before .before .before .before .before .before .before .before .before .args in
+    no-root (reply (a .sheet .now)) (a .surface) (a .chain) (a .word .now) (a .stem) (a .root) (a .rows) (a .count) _ (sym (tested (c .before)) ∙ not-true _ (c .if1 .taken))
+
 cast-t24 : tie.Need-cast-t24
 cast-t24 c = search needs
 
--- src/roots.rt:46:15
 cast-t25 : tie.Need-cast-t25
 cast-t25 c = search needs
 
--- src/roots.rt:47:16
 score-requires : tie.Need-score-requires
 score-requires c κs = search needs
 
--- src/roots.rt:53:5
 add-requires : tie.Need-add-requires
 add-requires c κs = search needs
 
--- src/roots.rt:17:1
 returns-2 : tie.Need-returns-2
-returns-2 c = ?
+returns-2 c =
+    let k = c .before in
+    let e = k .before .before in
+    let t = e .before in
+    let a = t .before .before .before .before .before .before .before .before .args in
+    let q = k .score .ensures ∙ ap (λ (x : Support). scoreFrom (a .surface) x (a .count) (a .chain .count)) (t .before .support-of .ensures)
+        ∙ score-is (reply (a .sheet .now)) (between (a .word .now) (a .root) (a .stem)) (a .surface) (a .count) (a .chain .count) in
+    c .add .ensures
+    ∙ one-root (reply (a .sheet .now)) (a .surface) (a .chain) (a .word .now) (a .stem) (a .root) (a .rows) (a .count) _ (k .score .result) (sym (tested t) ∙ not-false _ (e .if1 .left)) q
 
 pub with-root-spec : {M : Type 1} → statement M
 with-root-spec =
