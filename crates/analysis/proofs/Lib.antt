@@ -1,3 +1,4 @@
 pub mod Siblings
 pub mod Supported
 pub mod Added
+pub mod Cuts

@@ -1,9 +1,11 @@
 -- The readings that the code finds, said of places in the word. Assumes nothing.
-use Prim.Native.Nat.{ℕ, _-_}
+use Prim.Native.Nat.{ℕ, _-_, _≤_}
 use mathlib.Core.List.{List, [], _∷_}
-use lib.ListN.{take, drop}
+use lib.ListN.{length, take, drop}
+use Rattle.tables.specs.Rows.{prefixForms}
+use Rattle.tables.specs.Tables.{Laid, affixes}
 use Rattle.runs.specs.Runs.{pick}
-use Rattle.sheet.specs.Replies.{Ask}
+use Rattle.sheet.specs.Replies.{Ask, Indexed}
 use Rattle.ranking.specs.declared.Reading.{Reading}
 use Rattle.paths.specs.declared.Chain.{Chain}
 use Rattle.paths.specs.Support.{isSupported, scoreOf}
@@ -26,3 +28,10 @@ rootFound ask surface c w e b rows count =
       «suffix_count» = c .count;
     } ∷ [])
     []
+
+-- what every step of the walk is lent: an accepted sheet with its line starts, a word of at most 192 bytes, and the two tables
+pub record Lent (word sheet starts texts cuts forms formCuts : List ℕ) : Type 0 where
+  pub indexed : Indexed sheet starts
+  pub texts-laid : Laid affixes texts cuts
+  pub forms-laid : Laid prefixForms forms formCuts
+  pub short : length word ≤ 192

@@ -1,1 +1,3 @@
 pub mod Progressive
+pub mod Found
+pub mod Answers

@@ -1,0 +1,4 @@
+pub mod Verbs
+pub mod Shapes
+pub mod Forms
+pub mod Entries
