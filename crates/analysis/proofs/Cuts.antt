@@ -56,3 +56,11 @@ module _ (w : List ℕ) (b e : ℕ) where
           (record { stem = e; root = b; score = scoreOf ask surface (between w b e) (length rows) (c .count); prefixes = filled 2 0 rows; segments = c .segments; «prefix_count» = length rows; «suffix_count» = c .count })
           (record { stem = s; root = b′; score = scoreOf ask surface (between w b e) (length rows) (c .count); prefixes = filled 2 0 rows; segments = c .segments; «prefix_count» = length rows; «suffix_count» = c .count })
       same-record p q = rw (sym p, sym q)
+
+-- the same of a front part of the word
+module _ (w : List ℕ) (e : ℕ) where
+  pub front-none : (form : List ℕ) → Nothing ≡ restOf (take e w) form → prefixRemainder (take e w) form ≡ []
+  front-none form q = sym (rest-says (take e w) form) ∙ ap (behind (take e w)) (sym q)
+
+  pub front-left : (form : List ℕ) (n : ℕ) → From n ≡ restOf (take e w) form → prefixRemainder (take e w) form ≡ between w n e ∷ []
+  front-left form n q = sym (rest-says (take e w) form) ∙ ap (behind (take e w)) (sym q) ∙ ap (λ (l : List ℕ). l ∷ []) (drop-take n e w)

@@ -2,3 +2,4 @@ pub mod Siblings
 pub mod Supported
 pub mod Added
 pub mod Cuts
+pub mod Turns

@@ -70,3 +70,85 @@ fn second_row(
         }
     }
 }
+
+// All rows for the second prefix, behind the first.
+fn second_rows(
+    word: &[u8],
+    sheet: &[u8],
+    starts: &[Start],
+    texts: &[u8],
+    cuts: &[u16],
+    forms: &[u8],
+    form_cuts: &[u16],
+    stem: usize,
+    from: usize,
+    first: u8,
+    chain: Chain,
+    surface: u16,
+    found: Found,
+) -> Found
+    requires { ⌜ Lent (now word) (now sheet) (now starts) (now texts) (now cuts) (now forms) (now «form_cuts»)
+        × (from ≤ stem) × (stem ≤ length (now word)) × (surface ≤ 192) × (chain .count ≤ 4) ⌝ }
+    ensures { λ r. ⌜ foundOf r ≡ plusAll (now (word .entry)) (foundOf found)
+        (overForms (λ second left. rootWalk (reply (now (sheet .entry))) surface chain (take stem (now (word .entry))) (first ∷ second ∷ []) left)
+        (between (now (word .entry)) from stem) 0 30) ⌝ }
+{
+    let mut f = found;
+    let mut k: u8 = 0;
+    while k < 30 {
+        f = second_row(word, sheet, starts, texts, cuts, forms, form_cuts, stem, from, first, k, chain, surface, f);
+        k += 1;
+    }
+    f
+}
+
+// One row for the first prefix: its own reading, and, where what it leaves is no progressive form, those of a second prefix.
+fn first_row(
+    word: &[u8],
+    sheet: &[u8],
+    starts: &[Start],
+    texts: &[u8],
+    cuts: &[u16],
+    forms: &[u8],
+    form_cuts: &[u16],
+    stem: usize,
+    first: u8,
+    chain: Chain,
+    surface: u16,
+    found: Found,
+) -> Found
+    requires { ⌜ Lent (now word) (now sheet) (now starts) (now texts) (now cuts) (now forms) (now «form_cuts»)
+        × (stem ≤ length (now word)) × (first < 30) × (surface ≤ 192) × (chain .count ≤ 4) ⌝ }
+    ensures { λ r. ⌜ foundOf r ≡ plusAll (now (word .entry)) (foundOf found)
+        (onLeft (secondWalk (reply (now (sheet .entry))) surface chain (take stem (now (word .entry))) first)
+        (prefixRemainder (take stem (now (word .entry))) (formOf first))) ⌝ }
+{
+    let k = first as usize;
+    let form = row(forms, form_cuts, k);
+    let rest = prefix_rest(&word[..stem], form);
+    match rest {
+        Rest::Nothing => found,
+        Rest::From(root) => {
+            let progressive = has_supported_progressive_form(sheet, starts, &word[root..stem]);
+            let f = with_root(
+                word,
+                sheet,
+                starts,
+                texts,
+                cuts,
+                stem,
+                root,
+                [first, 0],
+                1,
+                chain,
+                surface,
+                progressive,
+                found,
+            );
+            if progressive {
+                return f;
+            }
+            second_rows(word, sheet, starts, texts, cuts, forms, form_cuts, stem, root, first, chain, surface, f)
+        }
+    }
+}

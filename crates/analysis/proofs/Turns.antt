@@ -1,0 +1,46 @@
+-- One row of a loop over rows, and what it adds. The proofs of the loops of the walk cite these. Assumes nothing.
+use Prim.Native.Nat.{ℕ, zero, suc, _+_, _-_, _<_, _≤_}
+use native.Mathlib.Omega.{arith}
+use native.Mathlib.Numerals.{add-one}
+use mathlib.Core.Path.{_≡_, refl, sym, ap, _∙_}
+use mathlib.Core.Bool.{true, false}
+use mathlib.Core.List.{List, [], _∷_, _++_, append-nil}
+use Rattle.strips.specs.Prefix.{prefixRemainder}
+use Rattle.ranking.specs.Lists.{Rows, plus, plusAll}
+use Rattle.ranking.specs.declared.Reading.{Reading}
+use Rattle.paths.specs.Chains.{formOf}
+use Rattle.sheet.specs.Replies.{Ask}
+use Rattle.progressive.specs.Progressive.{isProgressive}
+use Rattle.paths.specs.declared.Chain.{Chain}
+use Rattle.paths.specs.Walk.{rootWalk, onLeft, overForms, secondWalk}
+
+pub plus-append : (w : List ℕ) (a : Rows) (xs ys : List Reading) → plusAll w a (xs ++ ys) ≡ plusAll w (plusAll w a xs) ys
+unfolding plusAll
+plus-append w a [] ys = refl
+plus-append w a (x ∷ xs) ys = plus-append w (plus w a x) xs ys
+
+module _ (w : List ℕ) (f : ℕ → List ℕ → List Reading) (piece : List ℕ) (k n : ℕ) (a : Rows) where
+  pub form-turn : (g : Rows) → k < n → g ≡ plusAll w a (onLeft (f k) (prefixRemainder piece (formOf k)))
+      → plusAll w a (overForms f piece k (n - k)) ≡ plusAll w g (overForms f piece (k + 1) (n - (k + 1)))
+  unfolding overForms
+  form-turn g h e =
+      let q : n - k ≡ suc (n - (k + 1)) = omega arith in
+      rw (q, add-one) (plus-append w a (onLeft (f k) (prefixRemainder piece (formOf k))) (overForms f piece (suc k) (n - suc k)) ∙ ap (λ (r : Rows). plusAll w r (overForms f piece (suc k) (n - suc k))) (sym e))
+
+  pub form-end : n ≤ k → plusAll w a (overForms f piece k (n - k)) ≡ a
+  unfolding overForms plusAll
+  form-end h = let q : n - k ≡ 0 = omega arith in rw q
+
+-- a prefix's own reading alone, where what it leaves is a progressive form; else with those of a second prefix
+module _ (ask : Ask) (surface : ℕ) (c : Chain) (w stem : List ℕ) (first : ℕ) (left : List ℕ) (a g : Rows)
+    (e : g ≡ plusAll w a (rootWalk ask surface c stem (first ∷ []) left)) where
+  pub second-none : isProgressive ask left ≡ true → g ≡ plusAll w a (secondWalk ask surface c stem first left)
+  unfolding secondWalk
+  second-none p = rw (p, append-nil) e
+
+  pub second-some : (h : Rows) → isProgressive ask left ≡ false
+      → h ≡ plusAll w g (overForms (λ second rest. rootWalk ask surface c stem (first ∷ second ∷ []) rest) left 0 30) → h ≡ plusAll w a (secondWalk ask surface c stem first left)
+  unfolding secondWalk
+  second-some h p q =
+      let deeper = overForms (λ second rest. rootWalk ask surface c stem (first ∷ second ∷ []) rest) left 0 30 in
+      rw p (q ∙ ap (λ (r : Rows). plusAll w r deeper) e ∙ sym (plus-append w a (rootWalk ask surface c stem (first ∷ []) left) deeper))

@@ -1,0 +1,133 @@
+-- `analysis::prefixes::first_row` meets its contract: nothing is left, or the root's reading and those of a second prefix are added. Assumes nothing.
+use Prim.Native.Nat.{ℕ, _+_, _-_, _<_, _≤_}
+use native.Mathlib.Omega.{arith}
+use mathlib.Core.Path.{_≡_, refl, sym, ap, _∙_}
+use mathlib.Core.List.{List, [], _∷_}
+use lib.ListN.{length, take, drop}
+use lib.Seq.{length-take-le}
+use Rattle.tables.specs.Rows.{prefixForms}
+use Rattle.tables.proofs.Facts.{prefix-form-count}
+use Rattle.tables.proofs.Laid.{laid-asks, laid-row}
+use Rattle.strips.specs.Prefix.{prefixRemainder, restOf}
+use Rattle.strips.specs.declared.prefix.Rest.{Rest}
+use Rattle.strips.specs.declared.prefix.Rest.the-variants.{Nothing, From}
+use Rattle.strips.proofs.Remainders.{rest-inside}
+use Rattle.sheet.specs.Replies.{reply}
+use Rattle.ranking.specs.Lists.{foundOf, plusAll}
+use Rattle.ranking.specs.declared.Reading.{Reading}
+use Rattle.paths.specs.Chains.{formOf}
+use Rattle.paths.specs.Walk.{rootWalk, onLeft, secondWalk}
+use Rattle.analysis.specs.Places.{between}
+use Rattle.analysis.proofs.Cuts.{front-none, front-left, root-at}
+use Rattle.analysis.proofs.Turns.{second-none, second-some}
+use borrow.Author.Needs.{needs}
+use Rattle.analysis.proofs.prefixes.first_row.Statement.{statement}
+use Rattle.analysis.proofs.prefixes.first_row.Tie as tie
+
+row-requires : tie.Need-row-requires
+row-requires c κs = let a = c .before .before .before .before .before .before .before in laid-asks (a .pre .0 .forms-laid) (a .args .first) (omega (arith, prefix-form-count, a .pre .2))
+
+-- the start of the function, seen from the strip
+abbrev start : tie.After-prefix-rest → tie.Start
+start c = c .before .before .before .before .before .before .before .before .before .before
+
+abbrev piece : tie.After-prefix-rest → List ℕ
+piece c = take (start c .args .stem) (start c .args .word .now)
+
+asked : (c : tie.After-prefix-rest) → c .prefix-rest .result ≡ restOf (piece c) (formOf (start c .args .first))
+asked c =
+    let a = start c in
+    c .prefix-rest .ensures ∙ ap (restOf (piece c)) (c .before .before .row .ensures ∙ laid-row (a .pre .0 .forms-laid) (a .args .first) (omega (arith, prefix-form-count, a .pre .2)))
+
+slice-aggregate-prefix-rest : tie.Need-slice-aggregate-prefix-rest
+slice-aggregate-prefix-rest c = let a = c .before .before .before .before .before .before .before .before .before in sym (length-take-le (a .args .stem) (a .args .word .now) (a .pre .1))
+
+prefix-rest-requires : tie.Need-prefix-rest-requires
+prefix-rest-requires c κs = tt
+
+enum-told : tie.Need-enum-told
+enum-told c = search needs
+
+enum-known-rest : tie.Need-enum-known-rest
+enum-known-rest c = search needs
+
+-- the root begins inside the stem
+inside : (c : tie.After-rest) → c .rest .given .0 .0 ≤ start (c .before .before) .args .stem
+inside c =
+    let p = c .before .before in
+    let a = start p in
+    let n = rest-inside (piece p) (formOf (a .args .first)) (c .rest .given .0 .0) (sym (asked p) ∙ c .rest .given .1) in
+    let l : length (piece p) ≡ a .args .stem = length-take-le (a .args .stem) (a .args .word .now) (a .pre .1) in
+    omega (arith, n)
+
+sub-has-supported-progressive-form : tie.Need-sub-has-supported-progressive-form
+sub-has-supported-progressive-form c = inside (c .before)
+
+part-has-supported-progressive-form-start : tie.Need-part-has-supported-progressive-form-start
+part-has-supported-progressive-form-start c = omega (arith, inside (c .before), start (c .before .before .before) .pre .1)
+
+part-has-supported-progressive-form-end : tie.Need-part-has-supported-progressive-form-end
+part-has-supported-progressive-form-end c = search needs
+
+has-supported-progressive-form-requires : tie.Need-has-supported-progressive-form-requires
+has-supported-progressive-form-requires c κs = start (c .before .before .before .before) .pre .0 .indexed
+
+with-root-requires : tie.Need-with-root-requires
+with-root-requires c κs =
+    let r = c .before .before .before in
+    let a = start (r .before .before) in
+    (a .pre .0 .indexed, a .pre .0 .texts-laid, inside r, a .pre .1, a .pre .0 .short, a .pre .3, omega arith, a .pre .4, c .has-supported-progressive-form .ensures)
+
+returns-2 : tie.Need-returns-2
+unfolding plusAll
+returns-2 c =
+    let p = c .before .before in
+    let a = start p .args in
+    sym (ap (λ (l : List (List ℕ)). plusAll (a .word .now) (foundOf (a .found)) (onLeft (secondWalk (reply (a .sheet .now)) (a .surface) (a .chain) (take (a .stem) (a .word .now)) (a .first)) l))
+    (front-none (a .word .now) (a .stem) (formOf (a .first)) (sym (c .enum-told .given .1) ∙ asked p)))
+
+-- the prefix's own reading is added, and the rest of the walk begins at what it leaves
+module _ (c : tie.After-with-root) where
+  abbrev from-rest : tie.After-rest
+  from-rest = c .before .before .before .before
+
+  abbrev at-strip : tie.After-prefix-rest
+  at-strip = from-rest .before .before
+
+  own : let a = start at-strip .args in foundOf (c .with-root .result)
+      ≡ plusAll (a .word .now) (foundOf (a .found)) (rootWalk (reply (a .sheet .now)) (a .surface) (a .chain) (take (a .stem) (a .word .now)) (a .first ∷ []) (between (a .word .now) (from-rest .rest .given .0 .0) (a .stem)))
+  own =
+      let a = start at-strip in
+      c .with-root .ensures
+      ∙ ap (plusAll (a .args .word .now) (foundOf (a .args .found))) (root-at (a .args .word .now) (from-rest .rest .given .0 .0) (a .args .stem) (reply (a .args .sheet .now)) (a .args .surface) (a .args .chain) (a .args .first ∷ []) (inside from-rest) (a .pre .1))
+
+  left : let a = start at-strip .args in prefixRemainder (take (a .stem) (a .word .now)) (formOf (a .first)) ≡ between (a .word .now) (from-rest .rest .given .0 .0) (a .stem) ∷ []
+  left =
+      let a = start at-strip .args in
+      front-left (a .word .now) (a .stem) (formOf (a .first)) (from-rest .rest .given .0 .0) (sym (from-rest .rest .given .1) ∙ asked at-strip)
+
+returns : tie.Need-returns
+returns c =
+    let w = c .before in
+    let a = start (at-strip w) .args in
+    second-none (reply (a .sheet .now)) (a .surface) (a .chain) (a .word .now) (take (a .stem) (a .word .now)) (a .first) (between (a .word .now) (from-rest w .rest .given .0 .0) (a .stem)) _ _ (own w)
+        (sym (w .before .has-supported-progressive-form .ensures) ∙ c .if1 .taken)
+    ∙ sym (ap (λ (l : List (List ℕ)). plusAll (a .word .now) (foundOf (a .found)) (onLeft (secondWalk (reply (a .sheet .now)) (a .surface) (a .chain) (take (a .stem) (a .word .now)) (a .first)) l)) (left w))
+
+second-rows-requires : tie.Need-second-rows-requires
+second-rows-requires c κs =
+    let a = start (at-strip (c .before)) .pre in
+    (a .0, inside (from-rest (c .before)), a .1, a .3, a .4)
+
+returns-3 : tie.Need-returns-3
+returns-3 c =
+    let w = c .before .before in
+    let a = start (at-strip w) .args in
+    second-some (reply (a .sheet .now)) (a .surface) (a .chain) (a .word .now) (take (a .stem) (a .word .now)) (a .first) (between (a .word .now) (from-rest w .rest .given .0 .0) (a .stem)) _ _ (own w) _
+        (sym (w .before .has-supported-progressive-form .ensures) ∙ c .before .if1 .left) (c .second-rows .ensures)
+    ∙ sym (ap (λ (l : List (List ℕ)). plusAll (a .word .now) (foundOf (a .found)) (onLeft (secondWalk (reply (a .sheet .now)) (a .surface) (a .chain) (take (a .stem) (a .word .now)) (a .first)) l)) (left w))
+
+pub first-row-spec : {M : Type 1} → statement M
+first-row-spec =
+    tie.close
+    (tie.spec row-requires slice-aggregate-prefix-rest prefix-rest-requires enum-told enum-known-rest sub-has-supported-progressive-form part-has-supported-progressive-form-start part-has-supported-progressive-form-end has-supported-progressive-form-requires with-root-requires returns second-rows-requires returns-2 returns-3)
