@@ -64,3 +64,7 @@ module _ (w : List ℕ) (e : ℕ) where
 
   pub front-left : (form : List ℕ) (n : ℕ) → From n ≡ restOf (take e w) form → prefixRemainder (take e w) form ≡ between w n e ∷ []
   front-left form n q = sym (rest-says (take e w) form) ∙ ap (behind (take e w)) (sym q) ∙ ap (λ (l : List ℕ). l ∷ []) (drop-take n e w)
+
+  -- the whole of a front part, by places
+  pub whole-front : between w 0 e ≡ take e w
+  whole-front = rw (sub-zero e)

@@ -12,7 +12,7 @@ use Rattle.paths.specs.Chains.{formOf}
 use Rattle.sheet.specs.Replies.{Ask}
 use Rattle.progressive.specs.Progressive.{isProgressive}
 use Rattle.paths.specs.declared.Chain.{Chain}
-use Rattle.paths.specs.Walk.{rootWalk, onLeft, overForms, secondWalk}
+use Rattle.paths.specs.Walk.{rootWalk, onLeft, overForms, secondWalk, stemWalk}
 
 pub plus-append : (w : List ℕ) (a : Rows) (xs ys : List Reading) → plusAll w a (xs ++ ys) ≡ plusAll w (plusAll w a xs) ys
 unfolding plusAll
@@ -44,3 +44,15 @@ module _ (ask : Ask) (surface : ℕ) (c : Chain) (w stem : List ℕ) (first : �
   second-some h p q =
       let deeper = overForms (λ second rest. rootWalk ask surface c stem (first ∷ second ∷ []) rest) left 0 30 in
       rw p (q ∙ ap (λ (r : Rows). plusAll w r deeper) e ∙ sym (plus-append w a (rootWalk ask surface c stem (first ∷ []) left) deeper))
+
+-- a stem's own reading alone, where it is a progressive form; else with those of its prefixes
+module _ (ask : Ask) (surface : ℕ) (c : Chain) (w stem : List ℕ) (a g : Rows) (e : g ≡ plusAll w a (rootWalk ask surface c stem [] stem)) where
+  pub stem-none : isProgressive ask stem ≡ true → g ≡ plusAll w a (stemWalk ask surface c stem)
+  unfolding stemWalk
+  stem-none p = rw (p, append-nil) e
+
+  pub stem-some : (h : Rows) → isProgressive ask stem ≡ false → h ≡ plusAll w g (overForms (secondWalk ask surface c stem) stem 0 30) → h ≡ plusAll w a (stemWalk ask surface c stem)
+  unfolding stemWalk
+  stem-some h p q =
+      let deeper = overForms (secondWalk ask surface c stem) stem 0 30 in
+      rw p (q ∙ ap (λ (r : Rows). plusAll w r deeper) e ∙ sym (plus-append w a (rootWalk ask surface c stem [] stem) deeper))

@@ -152,3 +152,57 @@ fn first_row(
         }
     }
 }
+
+// All rows for the first prefix.
+fn first_rows(
+    word: &[u8],
+    sheet: &[u8],
+    starts: &[Start],
+    texts: &[u8],
+    cuts: &[u16],
+    forms: &[u8],
+    form_cuts: &[u16],
+    stem: usize,
+    chain: Chain,
+    surface: u16,
+    found: Found,
+) -> Found
+    requires { ⌜ Lent (now word) (now sheet) (now starts) (now texts) (now cuts) (now forms) (now «form_cuts»)
+        × (stem ≤ length (now word)) × (surface ≤ 192) × (chain .count ≤ 4) ⌝ }
+    ensures { λ r. ⌜ foundOf r ≡ plusAll (now (word .entry)) (foundOf found)
+        (overForms (secondWalk (reply (now (sheet .entry))) surface chain (take stem (now (word .entry)))) (take stem (now (word .entry))) 0 30) ⌝ }
+{
+    let mut f = found;
+    let mut k: u8 = 0;
+    while k < 30 {
+        f = first_row(word, sheet, starts, texts, cuts, forms, form_cuts, stem, k, chain, surface, f);
+        k += 1;
+    }
+    f
+}
+
+// The readings with this stem; whether the stem is a supported progressive form, which is never stripped, is known already.
+pub fn with_stem(
+    word: &[u8],
+    sheet: &[u8],
+    starts: &[Start],
+    texts: &[u8],
+    cuts: &[u16],
+    forms: &[u8],
+    form_cuts: &[u16],
+    stem: usize,
+    chain: Chain,
+    surface: u16,
+    progressive: bool,
+    found: Found,
+) -> Found
+    requires { ⌜ Lent (now word) (now sheet) (now starts) (now texts) (now cuts) (now forms) (now «form_cuts»)
+        × (stem ≤ length (now word)) × (surface ≤ 192) × (chain .count ≤ 4) × (progressive ≡ isProgressive (reply (now sheet)) (take stem (now word))) ⌝ }
+    ensures { λ r. ⌜ foundOf r ≡ plusAll (now (word .entry)) (foundOf found) (stemWalk (reply (now (sheet .entry))) surface chain (take stem (now (word .entry)))) ⌝ }
+{
+    let f = with_root(word, sheet, starts, texts, cuts, stem, 0, [0, 0], 0, chain, surface, progressive, found);
+    if progressive {
+        return f;
+    }
+    first_rows(word, sheet, starts, texts, cuts, forms, form_cuts, stem, chain, surface, f)
+}

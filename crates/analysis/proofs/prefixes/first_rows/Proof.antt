@@ -1,0 +1,58 @@
+-- `analysis::prefixes::first_rows` meets its contract: what all rows add is what those to come add to what has been collected. Assumes nothing.
+use Prim.Native.Nat.{ℕ, _-_, _<_, _≤_}
+use native.Mathlib.Omega.{arith}
+use mathlib.Core.Path.{_≡_, refl, sym, _∙_}
+use mathlib.Core.List.{List}
+use lib.ListN.{take}
+use Rattle.sheet.specs.Replies.{reply}
+use Rattle.ranking.specs.Lists.{foundOf, plusAll}
+use Rattle.ranking.specs.declared.Reading.{Reading}
+use Rattle.paths.specs.declared.Chain.{Chain}
+use Rattle.paths.specs.Walk.{secondWalk, overForms}
+use Rattle.analysis.proofs.Turns.{form-turn, form-end}
+use Rattle.analysis.proofs.prefixes.first_rows.Statement.{statement}
+use Rattle.analysis.proofs.prefixes.first_rows.Tie as tie
+
+-- what is done with what a row leaves
+abbrev each : List ℕ → List ℕ → ℕ → Chain → ℕ → ℕ → List ℕ → List Reading
+each word sheet stem chain surface = secondWalk (reply sheet) surface chain (take stem word)
+
+abbrev Inv-loop : tie.InvT-loop
+Inv-loop word sheet starts texts cuts forms form-cuts stem chain surface f₀ k₀ f k =
+    (k ≤ 30)
+    × (plusAll word (foundOf f₀) (overForms (each word sheet stem chain surface) (take stem word) 0 30)
+    ≡ plusAll word (foundOf f) (overForms (each word sheet stem chain surface) (take stem word) k (30 - k)))
+
+abbrev μ-loop : tie.MeasureT-loop
+μ-loop word sheet starts texts cuts forms form-cuts stem chain surface f₀ k₀ f k = 30 - k
+
+loop-holds : tie.Need-loop-holds Inv-loop μ-loop
+loop-holds c = (omega arith, refl)
+
+-- the start of the function, seen from the loop
+abbrev start : tie.At-loop Inv-loop μ-loop → tie.Start Inv-loop μ-loop
+start c = c .before .before .before .before .before .before .before .before
+
+first-row-requires : tie.Need-first-row-requires Inv-loop μ-loop
+first-row-requires c κs = let p = start (c .before) .pre in (p .0, p .1, c .loop-test .taken, p .2, p .3)
+
+add-k : tie.Need-add-k Inv-loop μ-loop
+add-k c = omega arith
+
+loop-less : tie.Need-loop-less Inv-loop μ-loop
+loop-less c = omega arith
+
+loop-again : tie.Need-loop-again Inv-loop μ-loop
+loop-again c =
+    let k = c .before .before in
+    let a = start k .args in
+    (omega arith, k .loop .inv .1 ∙ form-turn (a .word .now) (each (a .word .now) (a .sheet .now) (a .stem) (a .chain) (a .surface)) (take (a .stem) (a .word .now)) (k .loop .k) 30 (foundOf (k .loop .f)) _ (c .before .loop-test .taken) (c .first-row .ensures))
+
+returns : tie.Need-returns Inv-loop μ-loop
+returns c =
+    let k = c .before in
+    let a = start k .args in
+    sym (k .loop .inv .1 ∙ form-end (a .word .now) (each (a .word .now) (a .sheet .now) (a .stem) (a .chain) (a .surface)) (take (a .stem) (a .word .now)) (k .loop .k) 30 (foundOf (k .loop .f)) (c .loop-test .left))
+
+pub first-rows-spec : {M : Type 1} → statement M
+first-rows-spec = tie.close (tie.spec Inv-loop μ-loop loop-holds first-row-requires add-k loop-less loop-again returns)
