@@ -1,0 +1,147 @@
+// The walk: suffixes stripped from the word's end, outermost first, and the readings of every stem on the way.
+use crate::prefixes::with_stem;
+use lookup::answers::SheetKind;
+use lookup::answers::kind_of;
+use lookup::starts::Start;
+use paths::Chain;
+use progressive::find::has_supported_progressive_form;
+use ranking::AffixKind;
+use ranking::Found;
+use ranking::Segment;
+use strips::suffix::suffix_rests;
+use tables::row;
+ghost use mathlib.Core.Path.{_≡_};
+ghost use Prim.Native.Nat.{_-_, _≤_, _<_};
+ghost use lib.ListN.{length, take};
+ghost use Rattle.tables.specs.Tables.{Laid, affixes};
+ghost use Rattle.sheet.specs.Replies.{Indexed, reply};
+ghost use Rattle.ranking.specs.Lists.{foundOf, plusAll};
+ghost use Rattle.paths.specs.Chains.{rowsAfter};
+ghost use Rattle.paths.specs.Readings.{groupKind, kindOf};
+ghost use Rattle.paths.specs.Walk.{pushedOf, rowWalk, pieceWalk};
+ghost use Rattle.analysis.specs.Places.{Lent};
+
+// The kind of a row's group: plural markers are rows 0 and 1, case markers 2 to 17, particles the rest.
+fn group_kind(k: u8) -> AffixKind
+    ensures { λ r. ⌜ r ≡ groupKind k ⌝ }
+{
+    if k < 2 {
+        return AffixKind::PluralMarker;
+    }
+    if k < 18 {
+        return AffixKind::CaseMarker;
+    }
+    AffixKind::Particle
+}
+
+// How many rows may be stripped after row k.
+fn rows_after(k: u8) -> u8
+    ensures { λ r. ⌜ (r ≡ rowsAfter k) × (r ≤ 18) ⌝ }
+{
+    if k < 2 {
+        return 0;
+    }
+    18
+}
+
+// The kind of a row: that of a kind line of the sheet, else that of its group.
+fn kind_at(sheet: &[u8], starts: &[Start], texts: &[u8], cuts: &[u16], k: u8) -> AffixKind
+    requires { ⌜ Indexed (now sheet) (now starts) × Laid affixes (now texts) (now cuts) × (k < 25) ⌝ }
+    ensures { λ r. ⌜ r ≡ kindOf (reply (now (sheet .entry))) k ⌝ }
+{
+    let i = k as usize;
+    let listed = kind_of(sheet, starts, row(texts, cuts, i));
+    match listed {
+        SheetKind::Unlisted => group_kind(k),
+        SheetKind::Post => AffixKind::Postposition,
+        SheetKind::Comp => AffixKind::ComparisonMarker,
+    }
+}
+
+// One suffix more, nearest the stem.
+fn pushed(c: Chain, s: Segment) -> Chain
+    requires { ⌜ c .count < 4 ⌝ }
+    ensures { λ r. ⌜ r ≡ pushedOf c s ⌝ }
+{
+    let x = c.segments[0];
+    let y = c.segments[1];
+    let z = c.segments[2];
+    Chain {
+        segments: [s, x, y, z],
+        count: c.count + 1,
+    }
+}
+
+// The readings of the piece that is the word's first `end` bytes, with the suffixes stripped so far: those that take it for the
+// stem, then those that strip one of the first `rows` rows and go on.
+pub fn visit(
+    word: &[u8],
+    sheet: &[u8],
+    starts: &[Start],
+    texts: &[u8],
+    cuts: &[u16],
+    forms: &[u8],
+    form_cuts: &[u16],
+    end: usize,
+    chain: Chain,
+    rows: u8,
+    surface: u16,
+    found: Found,
+) -> Found
+    requires { ⌜ Lent (now word) (now sheet) (now starts) (now texts) (now cuts) (now forms) (now «form_cuts»)
+        × (end ≤ length (now word)) × (surface ≤ 192) × (chain .count ≤ 4) × (rows ≤ 25) ⌝ }
+    ensures { λ r. ⌜ foundOf r ≡ plusAll (now (word .entry)) (foundOf found)
+        (pieceWalk (4 - chain .count) (reply (now (sheet .entry))) surface chain rows (take end (now (word .entry)))) ⌝ }
+{
+    let progressive = has_supported_progressive_form(sheet, starts, &word[..end]);
+    let mut f = with_stem(word, sheet, starts, texts, cuts, forms, form_cuts, end, chain, surface, progressive, found);
+    if progressive {
+        return f;
+    }
+    if 4 <= chain.count {
+        return f;
+    }
+    let mut k: u8 = 0;
+    while k < rows {
+        f = below(word, sheet, starts, texts, cuts, forms, form_cuts, end, chain, k, surface, f);
+        k += 1;
+    }
+    f
+}
+
+// The readings that strip row k from the piece: what is left plain, then what is left shared.
+fn below(
+    word: &[u8],
+    sheet: &[u8],
+    starts: &[Start],
+    texts: &[u8],
+    cuts: &[u16],
+    forms: &[u8],
+    form_cuts: &[u16],
+    end: usize,
+    chain: Chain,
+    k: u8,
+    surface: u16,
+    found: Found,
+) -> Found
+    requires { ⌜ Lent (now word) (now sheet) (now starts) (now texts) (now cuts) (now forms) (now «form_cuts»)
+        × (end ≤ length (now word)) × (surface ≤ 192) × (chain .count < 4) × (k < 25) ⌝ }
+    ensures { λ r. ⌜ foundOf r ≡ plusAll (now (word .entry)) (foundOf found)
+        (rowWalk (pieceWalk (3 - chain .count) (reply (now (sheet .entry))) surface) (reply (now (sheet .entry))) chain (take end (now (word .entry))) k) ⌝ }
+{
+    let i = k as usize;
+    let rests = suffix_rests(&word[..end], row(texts, cuts, i));
+    if rests.count == 0 {
+        return found;
+    }
+    let kind = kind_at(sheet, starts, texts, cuts, k);
+    let next = pushed(chain, Segment { label: k, kind });
+    let rows = rows_after(k);
+    let plain = rests.plain;
+    let f = visit(word, sheet, starts, texts, cuts, forms, form_cuts, plain, next, rows, surface, found);
+    if rests.count == 1 {
+        return f;
+    }
+    let shared = rests.shared;
+    visit(word, sheet, starts, texts, cuts, forms, form_cuts, shared, next, rows, surface, f)
+}
