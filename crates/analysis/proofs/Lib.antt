@@ -3,3 +3,4 @@ pub mod Supported
 pub mod Added
 pub mod Cuts
 pub mod Turns
+pub mod Strips

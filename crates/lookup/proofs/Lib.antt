@@ -5,5 +5,6 @@ pub mod Count
 pub mod Halves
 pub mod Rounds
 pub mod Settled
+pub mod Begun
 pub mod Parts
 pub mod Promises

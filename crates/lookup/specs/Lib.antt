@@ -1,3 +1,4 @@
 pub mod Starts
 pub mod Search
 pub mod Answers
+pub mod Begins

@@ -4,15 +4,17 @@ use mathlib.Core.List.{List, [], _++_}
 use Prim.Native.Nat.{ℕ, _+_, _-_, _≤_}
 use native.Mathlib.Omega.{arith}
 use lib.ListN.{length, take, drop, length-append}
-use Rattle.text.specs.Word.{wordCheck}
+use lib.Dec.{eqb}
+use Rattle.runs.specs.Runs.{pick}
+use Rattle.text.specs.Word.{wordCheck, wordNumber}
 use Rattle.text.specs.declared.word.WordCheck.{WordCheck}
-use Rattle.sheet.specs.Lines.{sheetCheck, startsOf}
+use Rattle.sheet.specs.Lines.{sheetCheck, sheetNumber, startsOf}
 use Rattle.sheet.specs.declared.check.SheetCheck.{SheetCheck}
 use Rattle.progressive.specs.declared.find.Progressive.{Progressive}
 use Rattle.progressive.specs.declared.entry.Answer.{Answer}
 use Rattle.progressive.specs.declared.entry.Answer.the-variants.{WordTooLong, WordNotUtf8, WordForbidden, SheetTooLong, SheetNoForm, SheetNotAbove, Given}
 use Rattle.progressive.specs.Found.{FormAt, partAt}
-use Rattle.progressive.specs.Answers.{bySheet, byWord, answerOf, formGiven, nameBySheet, nameByWord, lemmaText, Lies, Answered}
+use Rattle.progressive.specs.Answers.{bySheet, byWord, answerOf, formGiven, nameBySheet, nameByWord, lemmaText, Lies, Answered, answerNumber, answerValue, refusalNumber, faultByte, refusalValue, Analyzed}
 
 module _ (w s : List ℕ) where
   -- x is what the sheet's check gave, y what it turned out to be
@@ -20,10 +22,48 @@ module _ (w s : List ℕ) where
       Answered w s (nameBySheet w s (sheetCheck s)) (bySheet w s (sheetCheck s)) r
   by-check x y r e f k = subst (λ (q : SheetCheck). Answered w s (nameBySheet w s q) (bySheet w s q) r) (sym f ∙ e) k
 
-  pub by-word-check : (x y : WordCheck) (r : Answer) → x ≡ wordCheck w → x ≡ y → Answered w s (nameByWord w s y) (byWord w s y) r →
+  -- the number and the value of what is given are those of the lowest refusal
+  numbered : answerNumber (answerOf w s) ≡ refusalNumber w s
+  unfolding answerOf refusalNumber
+  numbered = go (wordCheck w)
+    where
+      sheets : (y : SheetCheck) → answerNumber (bySheet w s y) ≡ sheetNumber y
+      sheets SheetCheck.Accepted = refl
+      sheets SheetCheck.TooLong = refl
+      sheets (SheetCheck.NoForm at) = refl
+      sheets (SheetCheck.NotAbove at) = refl
+
+      go : (x : WordCheck) → answerNumber (byWord w s x) ≡ pick (eqb (wordNumber x) 0) (sheetNumber (sheetCheck s)) (wordNumber x)
+      go WordCheck.Accepted = sheets (sheetCheck s)
+      go WordCheck.TooLong = refl
+      go WordCheck.NotUtf8 = refl
+      go WordCheck.Forbidden = refl
+
+  valued : answerValue (answerOf w s) ≡ refusalValue w s
+  unfolding answerOf refusalValue
+  valued = go (wordCheck w)
+    where
+      sheets : (y : SheetCheck) → answerValue (bySheet w s y) ≡ faultByte y
+      sheets SheetCheck.Accepted = refl
+      sheets SheetCheck.TooLong = refl
+      sheets (SheetCheck.NoForm at) = refl
+      sheets (SheetCheck.NotAbove at) = refl
+
+      go : (x : WordCheck) → answerValue (byWord w s x) ≡ pick (eqb (wordNumber x) 0) (faultByte (sheetCheck s)) 0
+      go WordCheck.Accepted = sheets (sheetCheck s)
+      go WordCheck.TooLong = refl
+      go WordCheck.NotUtf8 = refl
+      go WordCheck.Forbidden = refl
+
+  answered-by : (x y : WordCheck) (r : Answer) → x ≡ wordCheck w → x ≡ y → Answered w s (nameByWord w s y) (byWord w s y) r →
       Answered w s (lemmaText w s) (answerOf w s) r
   unfolding lemmaText answerOf
-  by-word-check x y r e f k = subst (λ (q : WordCheck). Answered w s (nameByWord w s q) (byWord w s q) r) (sym f ∙ e) k
+  answered-by x y r e f k = subst (λ (q : WordCheck). Answered w s (nameByWord w s q) (byWord w s q) r) (sym f ∙ e) k
+
+  pub by-word-check : (x y : WordCheck) (r : Answer) → x ≡ wordCheck w → x ≡ y → Answered w s (nameByWord w s y) (byWord w s y) r → Analyzed w s r
+  by-word-check x y r e f k =
+      let a = answered-by x y r e f k in
+      record { answered = a; number = ap answerNumber (a .settled) ∙ numbered; value = ap answerValue (a .settled) ∙ valued }
 
   -- a form that was found is given
   pub given : (r : Progressive) → FormAt s w r → Answered w s (nameBySheet w s SheetCheck.Accepted) (bySheet w s SheetCheck.Accepted) (Given r)

@@ -2,3 +2,4 @@ pub mod Verbs
 pub mod Shapes
 pub mod Forms
 pub mod Entries
+pub mod Cases

@@ -4,9 +4,11 @@ use Prim.Native.Nat.{ℕ, _+_, _≤_}
 use mathlib.Core.Path.{_≡_}
 use mathlib.Core.List.{List, []}
 use lib.ListN.{length}
-use Rattle.text.specs.Word.{wordCheck}
+use lib.Dec.{eqb}
+use Rattle.runs.specs.Runs.{pick}
+use Rattle.text.specs.Word.{wordCheck, wordNumber}
 use Rattle.text.specs.declared.word.WordCheck.{WordCheck}
-use Rattle.sheet.specs.Lines.{sheetCheck}
+use Rattle.sheet.specs.Lines.{sheetCheck, sheetNumber}
 use Rattle.sheet.specs.Replies.{reply}
 use Rattle.sheet.specs.declared.check.SheetCheck.{SheetCheck}
 use Rattle.progressive.specs.declared.find.Progressive.{Progressive}
@@ -98,3 +100,24 @@ pub record Answered (w s name : List ℕ) (a r : Answer) : Type 0 where
   pub settled : r ≡ a
   pub reads : lemmaPart s r ≡ name
   pub lies : Lies w s r
+
+-- the lowest number that applies, 0 for none: a refused word's, else the sheet's
+unfoldable pub refusalNumber : List ℕ → List ℕ → ℕ
+refusalNumber w s = pick (eqb (wordNumber (wordCheck w)) 0) (sheetNumber (sheetCheck s)) (wordNumber (wordCheck w))
+
+-- the first byte of the sheet's first faulty line, 0 for none
+abbrev pub faultByte : SheetCheck → ℕ
+faultByte SheetCheck.Accepted = 0
+faultByte SheetCheck.TooLong = 0
+faultByte (SheetCheck.NoForm at) = at
+faultByte (SheetCheck.NotAbove at) = at
+
+-- what comes with the number: nothing with a word's
+unfoldable pub refusalValue : List ℕ → List ℕ → ℕ
+refusalValue w s = pick (eqb (wordNumber (wordCheck w)) 0) (faultByte (sheetCheck s)) 0
+
+-- what the analysis gives: the answer, with document 01's number and value of it
+pub record Analyzed (w s : List ℕ) (r : Answer) : Type 0 where
+  pub answered : Answered w s (lemmaText w s) (answerOf w s) r
+  pub number : answerNumber r ≡ refusalNumber w s
+  pub value : answerValue r ≡ refusalValue w s

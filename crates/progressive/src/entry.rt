@@ -3,7 +3,7 @@ ghost use mathlib.Core.Path.{_≡_};
 ghost use Rattle.sheet.specs.Lines.{sheetCheck};
 ghost use Rattle.sheet.specs.declared.check.SheetCheck.the-variants.{Accepted};
 ghost use Rattle.progressive.specs.Found.{FormAt};
-ghost use Rattle.progressive.specs.Answers.{Answered, nameBySheet, bySheet, answerOf, formGiven, lemmaPart, lemmaText};
+ghost use Rattle.progressive.specs.Answers.{Answered, Analyzed, nameBySheet, bySheet, answerOf, formGiven, lemmaPart, lemmaText};
 use crate::find::Progressive;
 use crate::find::find_progressive;
 use crate::find::no_form;
@@ -51,7 +51,7 @@ fn by_sheet(word: &[u8], sheet: &[u8]) -> Answer
 
 // The progressive form of the word, or why word or sheet is refused: the lowest number that applies.
 pub fn analyze_progressive(word: &[u8], sheet: &[u8]) -> Answer
-    ensures { λ r. ⌜ Answered (now (word .entry)) (now (sheet .entry)) (lemmaText (now (word .entry)) (now (sheet .entry))) (answerOf (now (word .entry)) (now (sheet .entry))) r ⌝ }
+    ensures { λ r. ⌜ Analyzed (now (word .entry)) (now (sheet .entry)) r ⌝ }
 {
     let said = check_word(word);
     match said {

@@ -14,7 +14,7 @@ slice-aggregate-fill-starts : tie.Need-slice-aggregate-fill-starts
 slice-aggregate-fill-starts c = search needs
 
 fill-starts-requires : tie.Need-fill-starts-requires
-fill-starts-requires c κs = room (c .before .before .before .args .sheet .now) 6554 (c .before .before .before .pre) (omega arith)
+fill-starts-requires c κs = room (c .before .before .before .args .sheet .now) _ (c .before .before .before .pre) (omega arith)
 
 -- the stored starts fit the list
 stored : (c : tie.After-fill-starts) → c .fill-starts .result ≤ length (c .fill-starts .last .1 .0)

@@ -1,0 +1,6 @@
+pub mod Marked
+pub mod Stems
+pub mod Decided
+pub mod Contained
+pub mod Alike
+pub mod Worked
