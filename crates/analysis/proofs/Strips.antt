@@ -24,14 +24,14 @@ use Rattle.analysis.proofs.Turns.{plus-append}
 
 -- the two remainders of a piece, by how many there are
 module _ (p t : List ℕ) where
-  pub Lefts : Rests → Type 0
+  abbrev pub Lefts : Rests → Type 0
   Lefts r =
       (r .count ≡ 0 → (plain p t ≡ []) × (shared p t ≡ []))
       × (r .count ≡ 1 → (plain p t ≡ take (r .plain) p ∷ []) × (shared p t ≡ []))
       × ((r .count ≡ 0 → ⊥) → (r .count ≡ 1 → ⊥) → (plain p t ≡ take (r .plain) p ∷ []) × (shared p t ≡ take (r .shared) p ∷ []))
 
   pub lefts : Lefts (restsOf p t)
-  unfolding Lefts restsOf plain shared
+  unfolding restsOf plain shared
   lefts = by (sheds p t) (isLong t) refl
     where
       by : (a b : Bool) → sheds p t ≡ a →

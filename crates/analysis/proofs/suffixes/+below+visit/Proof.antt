@@ -1,10 +1,11 @@
 -- `analysis::suffixes::visit` and `below`, which call each other, meet their contracts: a piece's readings are those of its stem and
 -- of its rows, a row's those of what it leaves. The strips left fall with each call. Assumes nothing.
-use Prim.Native.Nat.{ℕ, _+_, _-_, _*_, _<_, _≤_}
+use native.Mathlib.Nat.{sub-zero}
+use Prim.Native.Nat.{ℕ, suc, _+_, _-_, _*_, _<_, _≤_}
 use native.Mathlib.Omega.{arith}
 use borrow.Fn.Kinds.{In}
 use borrow.Fn.PlainCycle.{Measures, is, falls, and}
-use mathlib.Core.Path.{_≡_, refl, sym, ap, _∙_}
+use mathlib.Core.Path.{_≡_, refl, sym, ap, subst, _∙_}
 use mathlib.Core.List.{List, [], _∷_}
 use lib.ListN.{length, take, getD}
 use lib.Seq.{length-take-le}
@@ -16,6 +17,7 @@ use Rattle.strips.specs.declared.suffix.Rests.{Rests}
 use Rattle.strips.proofs.Remainders.{Inside, rests-inside}
 use Rattle.sheet.specs.Replies.{reply}
 use Rattle.ranking.specs.Lists.{foundOf, plusAll}
+use Rattle.ranking.specs.declared.Reading.{Reading}
 use Rattle.ranking.specs.declared.AffixKind.{AffixKind}
 use Rattle.paths.specs.declared.Chain.{Chain}
 use Rattle.paths.specs.Readings.{kindOf}
@@ -83,38 +85,126 @@ visit-claims t = (
   below.Post,
 )
 
+-- the places of `below`: its start, and the strip
+abbrev BelowStart : ℕ → Type 0
+BelowStart t = below-lts.Start (below-claims t) (below-at t) below.Post
+
+abbrev BelowRests : ℕ → Type 0
+BelowRests t = below-lts.After-suffix-rests (below-claims t) (below-at t) below.Post
+
 below-slice-aggregate-suffix-rests : (t : ℕ) → below-lts.Need-slice-aggregate-suffix-rests (below-claims t) (below-at t) below.Post
-below-slice-aggregate-suffix-rests t c = ?
+below-slice-aggregate-suffix-rests t c = let a = c .before .before .before .before .before .before .before .before in sym (length-take-le (a .args .end) (a .args .word .now) (a .pre .1 .1))
 
 below-row-requires : (t : ℕ) → below-lts.Need-row-requires (below-claims t) (below-at t) below.Post
-below-row-requires t c κs = ?
+below-row-requires t c κs = let a = c .before .before .before .before .before .before .before .before in laid-asks (a .pre .1 .0 .texts-laid) (a .args .k) (omega (arith, affix-count, a .pre .1 .4))
 
 below-suffix-rests-requires : (t : ℕ) → below-lts.Need-suffix-rests-requires (below-claims t) (below-at t) below.Post
 below-suffix-rests-requires t c κs = tt
 
+module _ (t : ℕ) (c : BelowRests t) where
+  abbrev start : BelowStart t
+  start = c .before .before .before .before .before .before .before .before .before .before
+
+  abbrev piece : List ℕ
+  piece = take (start .args .end) (start .args .word .now)
+
+  abbrev text : List ℕ
+  text = getD affixes (start .args .k) []
+
+  rests-are : c .suffix-rests .result ≡ restsOf piece text
+  rests-are = c .suffix-rests .ensures ∙ ap (restsOf piece) (c .before .row .ensures ∙ laid-row (start .pre .1 .0 .texts-laid) (start .args .k) (omega (arith, affix-count, start .pre .1 .4)))
+
+  -- what is left, by how many remainders there are
+  left-are : Lefts piece text (c .suffix-rests .result)
+  left-are = subst (Lefts piece text) (sym rests-are) (lefts piece text)
+
+  -- the remainders lie inside the piece
+  inside-are : Inside piece (c .suffix-rests .result)
+  inside-are = subst (Inside piece) (sym rests-are) (rests-inside piece text)
+
+  piece-length : length piece ≡ start .args .end
+  piece-length = length-take-le (start .args .end) (start .args .word .now) (start .pre .1 .1)
+
+  plain-in : c .suffix-rests .result .plain ≤ start .args .end
+  plain-in = omega (arith, inside-are .plain-in, piece-length)
+
+  shared-in : c .suffix-rests .result .shared ≤ start .args .end
+  shared-in = omega (arith, inside-are .shared-in, piece-length)
+
 below-returns : (t : ℕ) → below-lts.Need-returns (below-claims t) (below-at t) below.Post
-below-returns t c = ?
+below-returns t c =
+    let r = c .before .before in
+    let a = start t r .args in
+    let l = left-are t r .0 (c .if1 .taken) in
+    row-none (a .word .now) (piece t r) (pieceWalk (3 - a .chain .count) (reply (a .sheet .now)) (a .surface)) (reply (a .sheet .now)) (a .chain) (a .k) (foundOf (a .found)) (l .0) (l .1)
 
 below-kind-at-requires : (t : ℕ) → below-lts.Need-kind-at-requires (below-claims t) (below-at t) below.Post
-below-kind-at-requires t c κs = ?
+below-kind-at-requires t c κs = let a = c .before .before .before .before .before .before .before .before .before .before .before .before in (a .pre .1 .0 .indexed, a .pre .1 .0 .texts-laid, a .pre .1 .4)
 
 below-pushed-requires : (t : ℕ) → below-lts.Need-pushed-requires (below-claims t) (below-at t) below.Post
-below-pushed-requires t c κs = ?
+below-pushed-requires t c κs = c .before .before .before .before .before .before .before .before .before .before .before .before .before .pre .1 .3
 
 below-rows-after-requires : (t : ℕ) → below-lts.Need-rows-after-requires (below-claims t) (below-at t) below.Post
 below-rows-after-requires t c κs = tt
 
+-- the chain with the row's suffix, and the rows that may come next
+module _ (t : ℕ) (c : below-lts.After-rows-after (below-claims t) (below-at t) below.Post) where
+  abbrev strip : BelowRests t
+  strip = c .before .before .before .before .before
+
+  abbrev begun : BelowStart t
+  begun = start t strip
+
+  pushed-is : c .before .pushed .result ≡ pushedOf (begun .args .chain) (record { label = begun .args .k; kind = kindOf (reply (begun .args .sheet .now)) (begun .args .k) })
+  pushed-is = c .before .pushed .ensures ∙ ap (λ (x : AffixKind). pushedOf (begun .args .chain) (record { label = begun .args .k; kind = x })) (c .before .before .kind-at .ensures)
+
+  -- the readings of what is left, with one strip fewer to come
+  abbrev deeper : Chain → ℕ → List ℕ → List Reading
+  deeper = pieceWalk (3 - begun .args .chain .count) (reply (begun .args .sheet .now)) (begun .args .surface)
+
+  one-fewer : (left : List ℕ) → pieceWalk (4 - c .before .pushed .result .count) (reply (begun .args .sheet .now)) (begun .args .surface) (c .before .pushed .result) (c .rows-after .result) left
+      ≡ deeper (c .before .pushed .result) (c .rows-after .result) left
+  one-fewer left =
+      let n : 4 - c .before .pushed .result .count ≡ 3 - begun .args .chain .count = omega (arith, ap (λ (x : Chain). x .count) pushed-is) in
+      ap (λ (d : ℕ). pieceWalk d (reply (begun .args .sheet .now)) (begun .args .surface) (c .before .pushed .result) (c .rows-after .result) left) n
+
+  pushed-count : c .before .pushed .result .count ≡ begun .args .chain .count + 1
+  pushed-count = ap (λ (x : Chain). x .count) pushed-is
+
 below-visit-requires : (t : ℕ) → below-lts.Need-visit-requires (below-claims t) (below-at t) below.Post
-below-visit-requires t c κs = ?
+below-visit-requires t c κs =
+    let a = begun t c in
+    let n = pushed-count t c in
+    (omega (arith, a .pre .0, a .pre .1 .3), (a .pre .1 .0, omega (arith, plain-in t (strip t c), a .pre .1 .1), a .pre .1 .2, omega (arith, a .pre .1 .3), omega (arith, c .rows-after .ensures .1)))
 
 below-returns-2 : (t : ℕ) → below-lts.Need-returns-2 (below-claims t) (below-at t) below.Post
-below-returns-2 t c = ?
+below-returns-2 t c =
+    let v = c .before .before in
+    let n = v .before in
+    let r = strip t n in
+    let a = begun t n .args in
+    let l = left-are t r .1 (c .if2 .taken) in
+    row-plain (a .word .now) (piece t r) (deeper t n) (reply (a .sheet .now)) (a .chain) (a .k) (foundOf (a .found)) (n .before .pushed .result) (n .rows-after .result) (pushed-is t n) (n .rows-after .ensures .0) _ _
+    (l .0 ∙ shorter (a .word .now) (r .suffix-rests .result .plain) (a .end) (plain-in t r)) (v .visit .ensures ∙ ap (plusAll (a .word .now) (foundOf (a .found))) (one-fewer t n _)) (l .1)
 
 below-visit-requires-2 : (t : ℕ) → below-lts.Need-visit-requires-2 (below-claims t) (below-at t) below.Post
-below-visit-requires-2 t c κs = ?
+below-visit-requires-2 t c κs =
+    let n = c .before .before .before in
+    let a = begun t n in
+    let q = pushed-count t n in
+    (omega (arith, a .pre .0, a .pre .1 .3), (a .pre .1 .0, omega (arith, shared-in t (strip t n), a .pre .1 .1), a .pre .1 .2, omega (arith, a .pre .1 .3), omega (arith, n .rows-after .ensures .1)))
 
 below-returns-3 : (t : ℕ) → below-lts.Need-returns-3 (below-claims t) (below-at t) below.Post
-below-returns-3 t c = ?
+below-returns-3 t c =
+    let e = c .before in
+    let v = e .before .before in
+    let n = v .before in
+    let r = strip t n in
+    let a = begun t n .args in
+    let l = left-are t r .2 (n .before .before .before .if1 .left) (e .if2 .left) in
+    row-both (a .word .now) (piece t r) (deeper t n) (reply (a .sheet .now)) (a .chain) (a .k) (foundOf (a .found)) (n .before .pushed .result) (n .rows-after .result) (pushed-is t n) (n .rows-after .ensures .0) _ _
+    (l .0 ∙ shorter (a .word .now) (r .suffix-rests .result .plain) (a .end) (plain-in t r)) (v .visit .ensures ∙ ap (plusAll (a .word .now) (foundOf (a .found))) (one-fewer t n _))
+    _ _ (l .1 ∙ shorter (a .word .now) (r .suffix-rests .result .shared) (a .end) (shared-in t r)) (c .visit2 .ensures ∙ ap (plusAll (a .word .now) (foundOf (v .visit .result))) (one-fewer t n _))
 
 abbrev visit-Inv-loop : visit-lts.InvT-loop
 visit-Inv-loop word sheet starts texts cuts forms form-cuts end chain rows surface progressive f₀ k₀ f k =
@@ -127,38 +217,72 @@ visit-μ-loop word sheet starts texts cuts forms form-cuts end chain rows surfac
 
 visit-slice-aggregate-has-supported-progressive-form :
     (t : ℕ) → visit-lts.Need-slice-aggregate-has-supported-progressive-form (visit-claims t) (visit-at t) visit.Post visit-Inv-loop visit-μ-loop
-visit-slice-aggregate-has-supported-progressive-form t c = ?
+visit-slice-aggregate-has-supported-progressive-form t c = let a = c .before .before .before .before .before .before .before .before in sym (length-take-le (a .args .end) (a .args .word .now) (a .pre .1 .1))
 
 visit-has-supported-progressive-form-requires :
     (t : ℕ) → visit-lts.Need-has-supported-progressive-form-requires (visit-claims t) (visit-at t) visit.Post visit-Inv-loop visit-μ-loop
-visit-has-supported-progressive-form-requires t c κs = ?
+visit-has-supported-progressive-form-requires t c κs = c .before .before .before .before .before .before .before .before .pre .1 .0 .indexed
 
 visit-with-stem-requires : (t : ℕ) → visit-lts.Need-with-stem-requires (visit-claims t) (visit-at t) visit.Post visit-Inv-loop visit-μ-loop
-visit-with-stem-requires t c κs = ?
+visit-with-stem-requires t c κs = let a = c .before .before .before .before .before .before .before .before .before .pre .1 in (a .0, a .1, a .2, a .3, c .has-supported-progressive-form .ensures)
 
 visit-returns : (t : ℕ) → visit-lts.Need-returns (visit-claims t) (visit-at t) visit.Post visit-Inv-loop visit-μ-loop
-visit-returns t c = ?
+visit-returns t c =
+    let s = c .before in
+    let a = s .before .before .before .before .before .before .before .before .before .before .args in
+    piece-progressive (a .word .now) (take (a .end) (a .word .now)) (reply (a .sheet .now)) (a .surface) (a .chain) (a .rows) (foundOf (a .found)) _ (s .with-stem .ensures) (4 - a .chain .count)
+    (sym (s .before .has-supported-progressive-form .ensures) ∙ c .if1 .taken)
 
 visit-returns-2 : (t : ℕ) → visit-lts.Need-returns-2 (visit-claims t) (visit-at t) visit.Post visit-Inv-loop visit-μ-loop
-visit-returns-2 t c = ?
+visit-returns-2 t c =
+    let s = c .before .before .before in
+    let a = s .before .before .before .before .before .before .before .before .before .before .args in
+    piece-last (a .word .now) (take (a .end) (a .word .now)) (reply (a .sheet .now)) (a .surface) (a .chain) (a .rows) (foundOf (a .found)) _ (s .with-stem .ensures) (4 - a .chain .count) (omega (arith, c .if2 .taken))
+
+-- the place before the loop, and the function's start
+module _ (t : ℕ) (c : visit-lts.At-loop (visit-claims t) (visit-at t) visit.Post visit-Inv-loop visit-μ-loop) where
+  abbrev stem-done : visit-lts.After-with-stem (visit-claims t) (visit-at t) visit.Post visit-Inv-loop visit-μ-loop
+  stem-done = c .before .before .before .before
+
+  abbrev entered : visit-lts.Start (visit-claims t) (visit-at t) visit.Post visit-Inv-loop visit-μ-loop
+  entered = stem-done .before .before .before .before .before .before .before .before .before .before
+
+  abbrev below-it : Chain → ℕ → List ℕ → List Reading
+  below-it = pieceWalk (3 - entered .args .chain .count) (reply (entered .args .sheet .now)) (entered .args .surface)
 
 visit-loop-holds : (t : ℕ) → visit-lts.Need-loop-holds (visit-claims t) (visit-at t) visit.Post visit-Inv-loop visit-μ-loop
-visit-loop-holds t c = (omega arith, refl)
+visit-loop-holds t c = (omega arith, rw (sub-zero (c .before .before .before .before .before .before .before .before .before .before .before .before .before .args .rows)))
 
 visit-below-requires : (t : ℕ) → visit-lts.Need-below-requires (visit-claims t) (visit-at t) visit.Post visit-Inv-loop visit-μ-loop
-visit-below-requires t c κs = ?
+visit-below-requires t c κs =
+    let k = c .before in
+    let a = entered t k in
+    (omega (arith, a .pre .0), (a .pre .1 .0, a .pre .1 .1, a .pre .1 .2, k .before .if2 .left, omega (arith, c .loop-test .taken, a .pre .1 .4)))
 
 visit-add-k : (t : ℕ) → visit-lts.Need-add-k (visit-claims t) (visit-at t) visit.Post visit-Inv-loop visit-μ-loop
-visit-add-k t c = omega arith
+visit-add-k t c = omega (arith, c .before .loop-test .taken, entered t (c .before .before) .pre .1 .4)
 
 visit-loop-less : (t : ℕ) → visit-lts.Need-loop-less (visit-claims t) (visit-at t) visit.Post visit-Inv-loop visit-μ-loop
-visit-loop-less t c = omega arith
+visit-loop-less t c = omega (arith, c .before .loop-test .taken)
 
 visit-loop-again : (t : ℕ) → visit-lts.Need-loop-again (visit-claims t) (visit-at t) visit.Post visit-Inv-loop visit-μ-loop
-visit-loop-again t c = ?
+visit-loop-again t c =
+    let k = c .before .before in
+    let a = entered t k .args in
+    (omega (arith, c .before .loop-test .taken),
+    k .loop .inv .1 ∙ row-turn (a .word .now) (take (a .end) (a .word .now)) (below-it t k) (reply (a .sheet .now)) (a .chain) (k .loop .k) (a .rows) (foundOf (k .loop .f)) _ (c .before .loop-test .taken) (c .below .ensures))
 
 visit-returns-3 : (t : ℕ) → visit-lts.Need-returns-3 (visit-claims t) (visit-at t) visit.Post visit-Inv-loop visit-μ-loop
-visit-returns-3 t c = ?
+visit-returns-3 t c =
+    let k = c .before in
+    let s = stem-done t k in
+    let a = entered t k .args in
+    let n : 4 - a .chain .count ≡ suc (3 - a .chain .count) = omega (arith, k .before .if2 .left) in
+    sym (row-end (a .word .now) (take (a .end) (a .word .now)) (below-it t k) (reply (a .sheet .now)) (a .chain) (k .loop .k) (a .rows) (foundOf (k .loop .f)) (c .loop-test .left))
+    ∙ sym (k .loop .inv .1)
+    ∙ piece-rows (a .word .now) (take (a .end) (a .word .now)) (reply (a .sheet .now)) (a .surface) (a .chain) (a .rows) (foundOf (a .found)) _ (s .with-stem .ensures) (3 - a .chain .count)
+        (sym (s .before .has-supported-progressive-form .ensures) ∙ k .before .before .before .if1 .left)
+    ∙ ap (λ (d : ℕ). plusAll (a .word .now) (foundOf (a .found)) (pieceWalk d (reply (a .sheet .now)) (a .surface) (a .chain) (a .rows) (take (a .end) (a .word .now)))) (sym n)
 
 pub +below+visit-spec : {M : Type 1} → statement M
 +below+visit-spec =
