@@ -96,7 +96,22 @@ fn second_rows(
     let mut f = found;
     let mut k: u8 = 0;
     while k < 30 {
-        f = second_row(word, sheet, starts, texts, cuts, forms, form_cuts, stem, from, first, k, chain, surface, f);
+        f = second_row(
+            word,
+            sheet,
+            starts,
+            texts,
+            cuts,
+            forms,
+            form_cuts,
+            stem,
+            from,
+            first,
+            k,
+            chain,
+            surface,
+            f,
+        );
         k += 1;
     }
     f
@@ -148,7 +163,21 @@ fn first_row(
             if progressive {
                 return f;
             }
-            second_rows(word, sheet, starts, texts, cuts, forms, form_cuts, stem, root, first, chain, surface, f)
+            second_rows(
+                word,
+                sheet,
+                starts,
+                texts,
+                cuts,
+                forms,
+                form_cuts,
+                stem,
+                root,
+                first,
+                chain,
+                surface,
+                f,
+            )
         }
     }
 }
@@ -175,7 +204,20 @@ fn first_rows(
     let mut f = found;
     let mut k: u8 = 0;
     while k < 30 {
-        f = first_row(word, sheet, starts, texts, cuts, forms, form_cuts, stem, k, chain, surface, f);
+        f = first_row(
+            word,
+            sheet,
+            starts,
+            texts,
+            cuts,
+            forms,
+            form_cuts,
+            stem,
+            k,
+            chain,
+            surface,
+            f,
+        );
         k += 1;
     }
     f
@@ -200,9 +242,35 @@ pub fn with_stem(
         × (stem ≤ length (now word)) × (surface ≤ 192) × (chain .count ≤ 4) × (progressive ≡ isProgressive (reply (now sheet)) (take stem (now word))) ⌝ }
     ensures { λ r. ⌜ foundOf r ≡ plusAll (now (word .entry)) (foundOf found) (stemWalk (reply (now (sheet .entry))) surface chain (take stem (now (word .entry)))) ⌝ }
 {
-    let f = with_root(word, sheet, starts, texts, cuts, stem, 0, [0, 0], 0, chain, surface, progressive, found);
+    let f = with_root(
+        word,
+        sheet,
+        starts,
+        texts,
+        cuts,
+        stem,
+        0,
+        [0, 0],
+        0,
+        chain,
+        surface,
+        progressive,
+        found,
+    );
     if progressive {
         return f;
     }
-    first_rows(word, sheet, starts, texts, cuts, forms, form_cuts, stem, chain, surface, f)
+    first_rows(
+        word,
+        sheet,
+        starts,
+        texts,
+        cuts,
+        forms,
+        form_cuts,
+        stem,
+        chain,
+        surface,
+        f,
+    )
 }

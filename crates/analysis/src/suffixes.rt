@@ -94,7 +94,20 @@ pub fn visit(
         (pieceWalk (4 - chain .count) (reply (now (sheet .entry))) surface chain rows (take end (now (word .entry)))) ⌝ }
 {
     let progressive = has_supported_progressive_form(sheet, starts, &word[..end]);
-    let mut f = with_stem(word, sheet, starts, texts, cuts, forms, form_cuts, end, chain, surface, progressive, found);
+    let mut f = with_stem(
+        word,
+        sheet,
+        starts,
+        texts,
+        cuts,
+        forms,
+        form_cuts,
+        end,
+        chain,
+        surface,
+        progressive,
+        found,
+    );
     if progressive {
         return f;
     }
@@ -103,7 +116,20 @@ pub fn visit(
     }
     let mut k: u8 = 0;
     while k < rows {
-        f = below(word, sheet, starts, texts, cuts, forms, form_cuts, end, chain, k, surface, f);
+        f = below(
+            word,
+            sheet,
+            starts,
+            texts,
+            cuts,
+            forms,
+            form_cuts,
+            end,
+            chain,
+            k,
+            surface,
+            f,
+        );
         k += 1;
     }
     f
@@ -138,10 +164,36 @@ fn below(
     let next = pushed(chain, Segment { label: k, kind });
     let rows = rows_after(k);
     let plain = rests.plain;
-    let f = visit(word, sheet, starts, texts, cuts, forms, form_cuts, plain, next, rows, surface, found);
+    let f = visit(
+        word,
+        sheet,
+        starts,
+        texts,
+        cuts,
+        forms,
+        form_cuts,
+        plain,
+        next,
+        rows,
+        surface,
+        found,
+    );
     if rests.count == 1 {
         return f;
     }
     let shared = rests.shared;
-    visit(word, sheet, starts, texts, cuts, forms, form_cuts, shared, next, rows, surface, f)
+    visit(
+        word,
+        sheet,
+        starts,
+        texts,
+        cuts,
+        forms,
+        form_cuts,
+        shared,
+        next,
+        rows,
+        surface,
+        f,
+    )
 }

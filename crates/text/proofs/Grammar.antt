@@ -92,7 +92,7 @@ module _ (r : Range) (rs : List Range) where
   shaped ((q ∷ qs) ∷ rows) g m =
       ⊎-elim
       (λ h. let p = heads h in let t = and-right (allApart q rows) _ (and-left _ _ g) in
-          (subst (λ (x : Range). apart tail x ≡ true) (sym (p .0)) (and-left _ _ t), subst (λ (x : List Range). tails x ≡ true) (sym (p .1)) (and-right (apart tail q) _ t)))
+      (subst (λ (x : Range). apart tail x ≡ true) (sym (p .0)) (and-left _ _ t), subst (λ (x : List Range). tails x ≡ true) (sym (p .1)) (and-right (apart tail q) _ t)))
       (λ k. shaped rows (and-right (allApart q rows && (apart tail q && tails qs)) _ g) k)
       (List·Memᴰ·cases-cons m)
 

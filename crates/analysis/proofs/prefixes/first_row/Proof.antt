@@ -111,7 +111,7 @@ returns c =
     let w = c .before in
     let a = start (at-strip w) .args in
     second-none (reply (a .sheet .now)) (a .surface) (a .chain) (a .word .now) (take (a .stem) (a .word .now)) (a .first) (between (a .word .now) (from-rest w .rest .given .0 .0) (a .stem)) _ _ (own w)
-        (sym (w .before .has-supported-progressive-form .ensures) ∙ c .if1 .taken)
+    (sym (w .before .has-supported-progressive-form .ensures) ∙ c .if1 .taken)
     ∙ sym (ap (λ (l : List (List ℕ)). plusAll (a .word .now) (foundOf (a .found)) (onLeft (secondWalk (reply (a .sheet .now)) (a .surface) (a .chain) (take (a .stem) (a .word .now)) (a .first)) l)) (left w))
 
 second-rows-requires : tie.Need-second-rows-requires
@@ -124,7 +124,7 @@ returns-3 c =
     let w = c .before .before in
     let a = start (at-strip w) .args in
     second-some (reply (a .sheet .now)) (a .surface) (a .chain) (a .word .now) (take (a .stem) (a .word .now)) (a .first) (between (a .word .now) (from-rest w .rest .given .0 .0) (a .stem)) _ _ (own w) _
-        (sym (w .before .has-supported-progressive-form .ensures) ∙ c .before .if1 .left) (c .second-rows .ensures)
+    (sym (w .before .has-supported-progressive-form .ensures) ∙ c .before .if1 .left) (c .second-rows .ensures)
     ∙ sym (ap (λ (l : List (List ℕ)). plusAll (a .word .now) (foundOf (a .found)) (onLeft (secondWalk (reply (a .sheet .now)) (a .surface) (a .chain) (take (a .stem) (a .word .now)) (a .first)) l)) (left w))
 
 pub first-row-spec : {M : Type 1} → statement M

@@ -16,9 +16,17 @@ use Rattle.analysis.proofs.prefixes.with_stem.Tie as tie
 
 with-root-requires : tie.Need-with-root-requires
 with-root-requires c κs =
-    let a = c .before .before .before .before .before .before .before in
-    (a .pre .0 .indexed, a .pre .0 .texts-laid, omega arith, a .pre .1, a .pre .0 .short, a .pre .2, omega arith, a .pre .3,
-    a .pre .4 ∙ ap (isProgressive (reply (a .args .sheet .now))) (sym (whole-front (a .args .word .now) (a .args .stem))))
+    let a = c .before .before .before .before .before .before .before in (
+      a .pre .0 .indexed,
+      a .pre .0 .texts-laid,
+      omega arith,
+      a .pre .1,
+      a .pre .0 .short,
+      a .pre .2,
+      omega arith,
+      a .pre .3,
+      a .pre .4 ∙ ap (isProgressive (reply (a .args .sheet .now))) (sym (whole-front (a .args .word .now) (a .args .stem))),
+    )
 
 -- the stem's own reading is added
 own : (c : tie.After-with-root) → let a = c .before .before .before .before .before .before .before .before .args in
@@ -27,8 +35,8 @@ own c =
     let a = c .before .before .before .before .before .before .before .before in
     c .with-root .ensures
     ∙ ap (plusAll (a .args .word .now) (foundOf (a .args .found)))
-        (root-at (a .args .word .now) 0 (a .args .stem) (reply (a .args .sheet .now)) (a .args .surface) (a .args .chain) [] (omega arith) (a .pre .1)
-        ∙ ap (rootWalk (reply (a .args .sheet .now)) (a .args .surface) (a .args .chain) (take (a .args .stem) (a .args .word .now)) []) (whole-front (a .args .word .now) (a .args .stem)))
+    (root-at (a .args .word .now) 0 (a .args .stem) (reply (a .args .sheet .now)) (a .args .surface) (a .args .chain) [] (omega arith) (a .pre .1)
+    ∙ ap (rootWalk (reply (a .args .sheet .now)) (a .args .surface) (a .args .chain) (take (a .args .stem) (a .args .word .now)) []) (whole-front (a .args .word .now) (a .args .stem)))
 
 returns : tie.Need-returns
 returns c =

@@ -64,7 +64,7 @@ returns-2 c =
     let t = e .before in
     let a = t .before .before .before .before .before .before .before .before .args in
     let q = k .score .ensures ∙ ap (λ (x : Support). scoreFrom (a .surface) x (a .count) (a .chain .count)) (t .before .support-of .ensures)
-        ∙ score-is (reply (a .sheet .now)) (between (a .word .now) (a .root) (a .stem)) (a .surface) (a .count) (a .chain .count) in
+    ∙ score-is (reply (a .sheet .now)) (between (a .word .now) (a .root) (a .stem)) (a .surface) (a .count) (a .chain .count) in
     c .add .ensures
     ∙ one-root (reply (a .sheet .now)) (a .surface) (a .chain) (a .word .now) (a .stem) (a .root) (a .rows) (a .count) _ (k .score .result) (sym (tested t) ∙ not-false _ (e .if1 .left)) q
 

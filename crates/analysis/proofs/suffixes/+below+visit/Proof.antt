@@ -268,9 +268,10 @@ visit-loop-less t c = omega (arith, c .before .loop-test .taken)
 visit-loop-again : (t : ℕ) → visit-lts.Need-loop-again (visit-claims t) (visit-at t) visit.Post visit-Inv-loop visit-μ-loop
 visit-loop-again t c =
     let k = c .before .before in
-    let a = entered t k .args in
-    (omega (arith, c .before .loop-test .taken),
-    k .loop .inv .1 ∙ row-turn (a .word .now) (take (a .end) (a .word .now)) (below-it t k) (reply (a .sheet .now)) (a .chain) (k .loop .k) (a .rows) (foundOf (k .loop .f)) _ (c .before .loop-test .taken) (c .below .ensures))
+    let a = entered t k .args in (
+      omega (arith, c .before .loop-test .taken),
+      k .loop .inv .1 ∙ row-turn (a .word .now) (take (a .end) (a .word .now)) (below-it t k) (reply (a .sheet .now)) (a .chain) (k .loop .k) (a .rows) (foundOf (k .loop .f)) _ (c .before .loop-test .taken) (c .below .ensures),
+    )
 
 visit-returns-3 : (t : ℕ) → visit-lts.Need-returns-3 (visit-claims t) (visit-at t) visit.Post visit-Inv-loop visit-μ-loop
 visit-returns-3 t c =
@@ -281,17 +282,17 @@ visit-returns-3 t c =
     sym (row-end (a .word .now) (take (a .end) (a .word .now)) (below-it t k) (reply (a .sheet .now)) (a .chain) (k .loop .k) (a .rows) (foundOf (k .loop .f)) (c .loop-test .left))
     ∙ sym (k .loop .inv .1)
     ∙ piece-rows (a .word .now) (take (a .end) (a .word .now)) (reply (a .sheet .now)) (a .surface) (a .chain) (a .rows) (foundOf (a .found)) _ (s .with-stem .ensures) (3 - a .chain .count)
-        (sym (s .before .has-supported-progressive-form .ensures) ∙ k .before .before .before .if1 .left)
+    (sym (s .before .has-supported-progressive-form .ensures) ∙ k .before .before .before .if1 .left)
     ∙ ap (λ (d : ℕ). plusAll (a .word .now) (foundOf (a .found)) (pieceWalk d (reply (a .sheet .now)) (a .surface) (a .chain) (a .rows) (take (a .end) (a .word .now)))) (sym n)
 
 pub +below+visit-spec : {M : Type 1} → statement M
 +below+visit-spec =
     close μ-below μ-visit
     (λ t.
-        below-lts.spec (below-claims t) (below-at t) below.Post (below-slice-aggregate-suffix-rests t) (below-row-requires t) (below-suffix-rests-requires t)
-        (below-returns t) (below-kind-at-requires t) (below-pushed-requires t) (below-rows-after-requires t) (below-visit-requires t) (below-returns-2 t)
-        (below-visit-requires-2 t) (below-returns-3 t))
+    below-lts.spec (below-claims t) (below-at t) below.Post (below-slice-aggregate-suffix-rests t) (below-row-requires t) (below-suffix-rests-requires t)
+    (below-returns t) (below-kind-at-requires t) (below-pushed-requires t) (below-rows-after-requires t) (below-visit-requires t) (below-returns-2 t)
+    (below-visit-requires-2 t) (below-returns-3 t))
     λ t.
-        visit-lts.spec (visit-claims t) (visit-at t) visit.Post visit-Inv-loop visit-μ-loop (visit-slice-aggregate-has-supported-progressive-form t)
-        (visit-has-supported-progressive-form-requires t) (visit-with-stem-requires t) (visit-returns t) (visit-returns-2 t) (visit-loop-holds t)
-        (visit-below-requires t) (visit-add-k t) (visit-loop-less t) (visit-loop-again t) (visit-returns-3 t)
+    visit-lts.spec (visit-claims t) (visit-at t) visit.Post visit-Inv-loop visit-μ-loop (visit-slice-aggregate-has-supported-progressive-form t)
+    (visit-has-supported-progressive-form-requires t) (visit-with-stem-requires t) (visit-returns t) (visit-returns-2 t) (visit-loop-holds t)
+    (visit-below-requires t) (visit-add-k t) (visit-loop-less t) (visit-loop-again t) (visit-returns-3 t)
