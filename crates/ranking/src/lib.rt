@@ -175,7 +175,7 @@ pub fn add(word: &[u8], found: Found, r: Reading) -> Found
 
 // Nothing collected.
 pub fn nothing() -> Found
-    ensures { λ f. ⌜ foundOf f ≡ rows [] ⌝ }
+    ensures { λ f. ⌜ (foundOf f ≡ rows []) × (rowsOf (f .list) ≡ []) ⌝ }
 {
     let s = Segment {
         label: 0,

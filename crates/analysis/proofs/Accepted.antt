@@ -1,0 +1,25 @@
+-- What an accepted word and sheet give the walk. The proofs of the entries cite these. Assumes nothing.
+use Prim.Native.Nat.{ℕ, _≤_}
+use native.Mathlib.Omega.{arith}
+use mathlib.Core.Path.{_≡_, refl, sym, ap, _∙_}
+use mathlib.Core.Bool.{Bool, true, false, not}
+use mathlib.Core.List.{List, []}
+use lib.ListN.{length}
+use lib.Dec.{ltb}
+use borrow.Author.Tests.{ltb-false, not-false}
+use Rattle.runs.specs.Runs.{pick}
+use Rattle.text.specs.Utf8.{isUtf8}
+use Rattle.text.specs.Names.{holdsForbidden}
+use Rattle.text.specs.Word.{wordLimit, wordCheck}
+use Rattle.text.specs.declared.word.WordCheck.{WordCheck}
+use Rattle.text.specs.declared.word.WordCheck.the-variants.{Accepted, TooLong, NotUtf8, Forbidden}
+
+-- an accepted word is short, and UTF-8
+pub word-parts : (w : List ℕ) → wordCheck w ≡ Accepted → (length w ≤ 192) × (isUtf8 w ≡ true)
+unfolding wordCheck
+word-parts w = by (ltb wordLimit (length w)) (isUtf8 w) (holdsForbidden w) refl refl
+  where
+    by : (a b c : Bool) → ltb wordLimit (length w) ≡ a → isUtf8 w ≡ b → pick a TooLong (pick (not b) NotUtf8 (pick c Forbidden Accepted)) ≡ Accepted → (length w ≤ 192) × (isUtf8 w ≡ true)
+    by true b c p q e = let z : _≡_ {A = ℕ} 0 1 = cc in absurd (omega arith)
+    by false false c p q e = let z : _≡_ {A = ℕ} 0 1 = cc in absurd (omega arith)
+    by false true c p q e = (ltb-false wordLimit (length w) p, q)
