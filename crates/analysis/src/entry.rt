@@ -26,7 +26,7 @@ ghost use Rattle.sheet.specs.Lines.{sheetCheck};
 ghost use Rattle.sheet.specs.Replies.{reply};
 
 ghost use Rattle.ranking.specs.Lists.{foundOf, rowsOf};
-ghost use Rattle.analysis.specs.Answers.{collected, saidOf, rowsGiven, bySheet, rowsBySheet};
+ghost use Rattle.analysis.specs.Answers.{collected, byRows, listedRows, saidOf, rowsGiven, bySheet, rowsBySheet};
 
 // What is said beside the list: it is given, or one of document 01's refusals, with the faulty line's first byte for two of them.
 pub enum Said {
@@ -76,4 +76,48 @@ fn collect(word: &[u8], sheet: &[u8]) -> Found
         count: 0,
     };
     visit(word, sheet, &starts[..n], &texts, &cuts, &forms, &form_cuts, word.len(), chain, 25, surface, nothing())
+}
+
+// What is given where word and sheet are accepted: the list, or that there are too many.
+fn listed(word: &[u8], sheet: &[u8]) -> Analysis
+    requires { ⌜ (wordCheck (now word) ≡ Accepted) × (sheetCheck (now sheet) ≡ SheetAccepted) ⌝ }
+    ensures { λ r. ⌜ (r .said ≡ byRows (collected (now (word .entry)) (now (sheet .entry)))) × (rowsOf (r .list) ≡ listedRows (collected (now (word .entry)) (now (sheet .entry)))) ⌝ }
+{
+    let found = collect(word, sheet);
+    if found.over {
+        return refused(Said::TooMany);
+    }
+    let list = found.list;
+    Analysis {
+        said: Said::Listed,
+        list,
+    }
+}
+
+// What is given for an accepted word.
+fn by_sheet(word: &[u8], sheet: &[u8]) -> Analysis
+    requires { ⌜ wordCheck (now word) ≡ Accepted ⌝ }
+    ensures { λ r. ⌜ (r .said ≡ bySheet (now (word .entry)) (now (sheet .entry)) (sheetCheck (now (sheet .entry)))) × (rowsOf (r .list) ≡ rowsBySheet (now (word .entry)) (now (sheet .entry)) (sheetCheck (now (sheet .entry)))) ⌝ }
+{
+    let answer = check_sheet(sheet);
+    match answer {
+        SheetCheck::TooLong => refused(Said::SheetTooLong),
+        SheetCheck::NoForm(at) => refused(Said::SheetNoForm(at)),
+        SheetCheck::NotAbove(at) => refused(Said::SheetNotAbove(at)),
+        SheetCheck::Accepted => listed(word, sheet),
+    }
+}
+
+// The core call: every reading of the word that the sheet supports, each once, in rank order; or why there is none: the lowest
+// number that applies.
+pub fn analyze_affixes(word: &[u8], sheet: &[u8]) -> Analysis
+    ensures { λ r. ⌜ (r .said ≡ saidOf (now (word .entry)) (now (sheet .entry))) × (rowsOf (r .list) ≡ rowsGiven (now (word .entry)) (now (sheet .entry))) ⌝ }
+{
+    let answer = check_word(word);
+    match answer {
+        WordCheck::TooLong => refused(Said::WordTooLong),
+        WordCheck::NotUtf8 => refused(Said::WordNotUtf8),
+        WordCheck::Forbidden => refused(Said::WordForbidden),
+        WordCheck::Accepted => by_sheet(word, sheet),
+    }
 }
