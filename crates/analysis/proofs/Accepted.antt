@@ -8,6 +8,10 @@ use lib.ListN.{length}
 use lib.Dec.{ltb}
 use borrow.Author.Tests.{ltb-false, not-false}
 use Rattle.runs.specs.Runs.{pick}
+use Rattle.ranking.specs.Lists.{Rows, rows, over, rowsOf, foundOf}
+use Rattle.ranking.specs.declared.Found.{Found}
+use Rattle.analysis.specs.Answers.{byRows, listedRows}
+use Rattle.analysis.specs.declared.entry.Said.the-variants.{Listed, TooMany}
 use Rattle.text.specs.Utf8.{isUtf8}
 use Rattle.text.specs.Names.{holdsForbidden}
 use Rattle.text.specs.Word.{wordLimit, wordCheck}
@@ -23,3 +27,11 @@ word-parts w = by (ltb wordLimit (length w)) (isUtf8 w) (holdsForbidden w) refl 
     by true b c p q e = let z : _≡_ {A = ℕ} 0 1 = cc in absurd (omega arith)
     by false false c p q e = let z : _≡_ {A = ℕ} 0 1 = cc in absurd (omega arith)
     by false true c p q e = (ltb-false wordLimit (length w) p, q)
+
+-- what has been collected, and what is said of it
+module _ (f : Found) (r : Rows) (e : foundOf f ≡ r) where
+  pub too-many : f .over ≡ true → (TooMany ≡ byRows r) × ([] ≡ listedRows r)
+  too-many h = let q : over ≡ r = rw h at e in (ap byRows q, ap listedRows q)
+
+  pub all-listed : f .over ≡ false → (Listed ≡ byRows r) × (rowsOf (f .list) ≡ listedRows r)
+  all-listed h = let q : rows (rowsOf (f .list)) ≡ r = rw h at e in (ap byRows q, ap listedRows q)
