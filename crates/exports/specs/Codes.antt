@@ -1,9 +1,25 @@
--- How the static library's functions give document 01's numbers: in the lowest four bits, and above them, for 5 and 6, the first
--- byte of the faulty line. Assumes nothing.
+-- How the static library's functions give their answers as numbers: document 01's number of a refusal in the lowest four bits, and
+-- above them, for 5 and 6, the first byte of the faulty line; what is found stands above the lowest four bits too. Assumes nothing.
 use Prim.Native.Nat.{ℕ, _+_, _*_}
+use mathlib.Core.Bool.{Bool, true, false}
+use lib.Ieee.{Float}
+use Rattle.runs.specs.Runs.{pick}
+use Rattle.tables.specs.declared.origins.Origin.{Origin}
+use Rattle.tables.specs.declared.origins.Origin.the-variants.{Tatsam, Tadbhav, Deshaj, Aagantuk}
 use Rattle.sheet.specs.Lines.{sheetNumber}
 use Rattle.sheet.specs.declared.check.SheetCheck.{SheetCheck}
 use Rattle.sheet.specs.declared.check.SheetCheck.the-variants.{Accepted, TooLong, NoForm, NotAbove}
+use Rattle.progressive.specs.declared.find.Progressive.{Progressive}
+use Rattle.progressive.specs.declared.entry.Answer.{Answer}
+use Rattle.progressive.specs.declared.entry.Answer.the-variants as answers
+use Rattle.origin.specs.Decisions.{none}
+use Rattle.origin.specs.declared.OriginSource.{OriginSource}
+use Rattle.origin.specs.declared.OriginSource.the-variants.{Override, Kosha, Heuristic, Unknown}
+use Rattle.origin.specs.declared.OriginDecision.{OriginDecision}
+use Rattle.origin.specs.declared.entries.Refusal.{Refusal}
+use Rattle.origin.specs.declared.entries.Refusal.the-variants as refusals
+use Rattle.origin.specs.declared.entries.DecisionAnswer.{DecisionAnswer}
+use Rattle.origin.specs.declared.entries.DecisionAnswer.the-variants as decisions
 
 -- the first byte of the faulty line
 abbrev pub faultAt : SheetCheck → ℕ
@@ -14,3 +30,54 @@ faultAt (NotAbove at) = at
 
 abbrev pub sheetCode : SheetCheck → ℕ
 sheetCode c = sheetNumber c + 16 * faultAt c
+
+abbrev pub bit : Bool → ℕ
+bit true = 1
+bit false = 0
+
+-- where a form's main form ends, and where and how long its lemma's name is: from bits 5, 21 and 13 on
+abbrev pub placesCode : Progressive → ℕ
+placesCode f = 32 * f .«main_end» + 8192 * f .«lemma_len» + 2097152 * f .«lemma_at»
+
+-- 0 for none; else 15, which is no refusal's number, the sign in bit 4 and the places
+abbrev pub formCode : Progressive → ℕ
+formCode f = pick (f .found) (15 + 16 * bit (f .negative) + placesCode f) 0
+
+abbrev pub progressiveCode : Answer → ℕ
+progressiveCode answers.WordTooLong = 1
+progressiveCode answers.WordNotUtf8 = 2
+progressiveCode answers.WordForbidden = 3
+progressiveCode answers.SheetTooLong = 4
+progressiveCode (answers.SheetNoForm at) = 5 + 16 * at
+progressiveCode (answers.SheetNotAbove at) = 6 + 16 * at
+progressiveCode (answers.Given form) = formCode form
+
+abbrev pub refusalCode : Refusal → ℕ
+refusalCode refusals.WordTooLong = 1
+refusalCode refusals.WordNotUtf8 = 2
+refusalCode refusals.WordForbidden = 3
+refusalCode refusals.SheetTooLong = 4
+refusalCode (refusals.SheetNoForm at) = 5 + 16 * at
+refusalCode (refusals.SheetNotAbove at) = 6 + 16 * at
+
+abbrev pub originNumber : Origin → ℕ
+originNumber Tatsam = 0
+originNumber Tadbhav = 1
+originNumber Deshaj = 2
+originNumber Aagantuk = 3
+
+abbrev pub sourceNumber : OriginSource → ℕ
+sourceNumber Override = 0
+sourceNumber Kosha = 1
+sourceNumber Heuristic = 2
+sourceNumber Unknown = 3
+
+-- the origin in bits 4 and 5, the source in bits 6 and 7
+abbrev pub originCode : DecisionAnswer → ℕ
+originCode (decisions.Decided d) = 16 * originNumber (d .origin) + 64 * sourceNumber (d .source)
+originCode (decisions.Refused r) = refusalCode r
+
+-- how surely the origin is known; 0.0 for a refused word or sheet
+abbrev pub confidenceOf : DecisionAnswer → Float
+confidenceOf (decisions.Decided d) = d .confidence
+confidenceOf (decisions.Refused r) = none

@@ -1,12 +1,24 @@
 // The static library's functions: what Rust and C call. They take numbers and slices of numbers alone.
+use origin::OriginDecision;
+use origin::OriginSource;
+use origin::entries::DecisionAnswer;
+use origin::entries::Refusal;
+use origin::entries::classify_with_provenance;
+use progressive::entry::Answer;
+use progressive::entry::analyze_progressive;
+use progressive::find::Progressive;
 use sheet::check::SheetCheck;
 use sheet::check::check_sheet;
+use tables::origins::Origin;
 use text::word::WordCheck;
 use text::word::check_word;
 ghost use mathlib.Core.Path.{_≡_};
-ghost use Rattle.text.specs.Word.{wordCheck, wordNumber};
-ghost use Rattle.sheet.specs.Lines.{sheetCheck};
-ghost use Rattle.exports.specs.Codes.{sheetCode};
+ghost use Prim.Native.Nat.{_+_, _*_, _≤_};
+ghost use Rattle.text.specs.Word.{wordCheck, wordNumber, wordLimit};
+ghost use Rattle.sheet.specs.Lines.{sheetCheck, sheetLimit};
+ghost use Rattle.progressive.specs.Answers.{answerOf};
+ghost use Rattle.origin.specs.Answers.{decisionAnswer};
+ghost use Rattle.exports.specs.Codes.{sheetCode, formCode, progressiveCode, originNumber, sourceNumber, originCode, confidenceOf};
 
 // 0 for a word that is accepted, else document 01's number: 1, 2 or 3.
 #[no_mangle]
@@ -33,5 +45,103 @@ pub extern "C" fn yunthirel_check_sheet(sheet: &[u8]) -> u64
         SheetCheck::TooLong => 4,
         SheetCheck::NoForm(at) => 5 + 16 * (at as u64),
         SheetCheck::NotAbove(at) => 6 + 16 * (at as u64),
+    }
+}
+
+// A form as a number: 0 for none; else 15 in the lowest four bits, which is no refusal's number, then one bit that says negative, 8 bits
+// for the end of the main form, 8 for the length of the lemma's name and the rest for its place in the sheet.
+fn form_code(form: Progressive) -> u64
+    requires { ⌜ (form .«main_end» ≤ wordLimit) × (form .«lemma_len» ≤ 210) × (form .«lemma_at» + form .«lemma_len» ≤ sheetLimit) ⌝ }
+    ensures { λ r. ⌜ r ≡ formCode form ⌝ }
+{
+    if !form.found {
+        return 0;
+    }
+    let places = 32 * (form.main_end as u64)
+        + 8192 * (form.lemma_len as u64)
+        + 2097152 * (form.lemma_at as u64);
+    if form.negative {
+        return 31 + places;
+    }
+    15 + places
+}
+
+// The progressive form of the word, as `form_code` gives it; else document 01's number of the refusal, 1 to 6, with 16 times the first
+// byte of the faulty line for 5 and 6. The auxiliary is the rest of the word after the main form.
+#[no_mangle]
+pub extern "C" fn yunthirel_progressive(word: &[u8], sheet: &[u8]) -> u64
+    ensures { λ r. ⌜ r ≡ progressiveCode (answerOf (now (word .entry)) (now (sheet .entry))) ⌝ }
+{
+    let answer = analyze_progressive(word, sheet);
+    match answer {
+        Answer::WordTooLong => 1,
+        Answer::WordNotUtf8 => 2,
+        Answer::WordForbidden => 3,
+        Answer::SheetTooLong => 4,
+        Answer::SheetNoForm(at) => 5 + 16 * (at as u64),
+        Answer::SheetNotAbove(at) => 6 + 16 * (at as u64),
+        Answer::Given(form) => form_code(form),
+    }
+}
+
+fn origin_number(origin: Origin) -> u64
+    ensures { λ r. ⌜ (r ≡ originNumber origin) × (r ≤ 3) ⌝ }
+{
+    match origin {
+        Origin::Tatsam => 0,
+        Origin::Tadbhav => 1,
+        Origin::Deshaj => 2,
+        Origin::Aagantuk => 3,
+    }
+}
+
+fn source_number(source: OriginSource) -> u64
+    ensures { λ r. ⌜ (r ≡ sourceNumber source) × (r ≤ 3) ⌝ }
+{
+    match source {
+        OriginSource::Override => 0,
+        OriginSource::Kosha => 1,
+        OriginSource::Heuristic => 2,
+        OriginSource::Unknown => 3,
+    }
+}
+
+// Origin and source of a decision; the confidence is a number of its own kind and has its own function.
+fn decision_code(decision: OriginDecision) -> u64
+    ensures { λ r. ⌜ r ≡ 16 * originNumber (decision .origin) + 64 * sourceNumber (decision .source) ⌝ }
+{
+    let origin = decision.origin;
+    let source = decision.source;
+    16 * origin_number(origin) + 64 * source_number(source)
+}
+
+// Where the word comes from, in bits 4 and 5, and how that is known, in bits 6 and 7; else the refusal as above.
+#[no_mangle]
+pub extern "C" fn yunthirel_origin(word: &[u8], sheet: &[u8]) -> u64
+    ensures { λ r. ⌜ r ≡ originCode (decisionAnswer (now (word .entry)) (now (sheet .entry))) ⌝ }
+{
+    let answer = classify_with_provenance(word, sheet);
+    match answer {
+        DecisionAnswer::Decided(decision) => decision_code(decision),
+        DecisionAnswer::Refused(refusal) => match refusal {
+            Refusal::WordTooLong => 1,
+            Refusal::WordNotUtf8 => 2,
+            Refusal::WordForbidden => 3,
+            Refusal::SheetTooLong => 4,
+            Refusal::SheetNoForm(at) => 5 + 16 * (at as u64),
+            Refusal::SheetNotAbove(at) => 6 + 16 * (at as u64),
+        },
+    }
+}
+
+// How surely the origin is known; 0.0 for a refused word or sheet.
+#[no_mangle]
+pub extern "C" fn yunthirel_confidence(word: &[u8], sheet: &[u8]) -> f32
+    ensures { λ r. ⌜ r ≡ confidenceOf (decisionAnswer (now (word .entry)) (now (sheet .entry))) ⌝ }
+{
+    let answer = classify_with_provenance(word, sheet);
+    match answer {
+        DecisionAnswer::Decided(decision) => decision.confidence,
+        DecisionAnswer::Refused(_) => 0.0,
     }
 }

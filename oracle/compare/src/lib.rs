@@ -26,9 +26,78 @@ pub const QUESTIONS: &[Question] = &[
         oracle: |case| code(acceptance::check_sheet(&case.sheet).err()).to_string(),
         port: |case| port::check_sheet(&case.sheet).to_string(),
     },
+    Question {
+        name: "progressive",
+        oracle: |case| oracle_line(case, "progressive "),
+        port: |case| progressive(case, port::progressive(&case.word, &case.sheet)),
+    },
+    Question {
+        name: "origin",
+        oracle: |case| oracle_line(case, "origin "),
+        port: |case| origin(port::origin(&case.word, &case.sheet), port::confidence(&case.word, &case.sheet)),
+    },
 ];
 
 /// 0 for accepted; else the number, with 16 times the line's first byte where there is one.
 fn code(refusal: Option<Refusal>) -> u64 {
     refusal.map_or(0, |refusal| u64::from(refusal.number) + 16 * refusal.start.unwrap_or(0) as u64)
+}
+
+/// The oracle's line of that name, or its refusal, which stands alone. Of an answer that begins with
+/// another refusal, number 7 of the list, the line is still there and is what is asked for.
+fn oracle_line(case: &Case, name: &str) -> String {
+    let answer = String::from_utf8(answers::answer(&case.word, &case.sheet)).expect("an accepted word is UTF-8");
+    let line = answer.lines().find(|line| line.starts_with(name));
+    line.unwrap_or(answer.trim_end()).to_string()
+}
+
+/// The refusal in the lowest four bits, as the oracle writes it: 5 and 6 always come with a place.
+/// Bits that no refusal has are shown, so that they differ.
+fn refusal(code: u64) -> String {
+    match (code % 16, code / 16) {
+        (number @ (1..=4), 0) => format!("(refused {number})"),
+        (number @ (5 | 6), start) => format!("(refused {number} {start})"),
+        _ => format!("no answer: {code:#x}"),
+    }
+}
+
+/// What the port found, written as the oracle does. The texts are read where the port says that they
+/// stand: the main form and the auxiliary in the word, the lemma in the sheet.
+fn progressive(case: &Case, code: u64) -> String {
+    if code == 0 {
+        return "progressive none".to_string();
+    }
+    if code % 16 != 15 {
+        return refusal(code);
+    }
+    let (negative, main_end) = (code >> 4 & 1, (code >> 5 & 0xFF) as usize);
+    let (lemma_len, lemma_at) = ((code >> 13 & 0xFF) as usize, (code >> 21) as usize);
+    let main = case.word.get(..main_end).map(text);
+    let auxiliary = case.word.get(main_end..).map(text);
+    let lemma = case.sheet.get(lemma_at..lemma_at + lemma_len).map(text);
+    let (Some(main), Some(auxiliary), Some(lemma)) = (main, auxiliary, lemma) else {
+        return format!("places outside word or sheet: {code:#x}");
+    };
+    // The auxiliary's lemma is the same for every form, so the port does not hand it back.
+    let sign = if negative == 1 { "negative" } else { "affirmative" };
+    format!("progressive {main} {lemma} {auxiliary} रहनु {sign}")
+}
+
+fn text(bytes: &[u8]) -> String {
+    String::from_utf8_lossy(bytes).into_owned()
+}
+
+/// The port's decision, written as the oracle does; a refusal has confidence 0.0.
+fn origin(code: u64, confidence: f32) -> String {
+    let bits = confidence.to_bits();
+    if code % 16 != 0 {
+        let refusal = refusal(code);
+        return if bits == 0 { refusal } else { format!("{refusal} with confidence {bits:08X}") };
+    }
+    let origin = ['t', 'b', 'd', 'a'][(code >> 4 & 3) as usize];
+    let source = ["override", "kosha", "heuristic", "unknown"][(code >> 6 & 3) as usize];
+    if code >> 8 != 0 {
+        return format!("no answer: {code:#x}");
+    }
+    format!("origin {origin} {source} {bits:08X}")
 }

@@ -5,13 +5,20 @@
 #![allow(unsafe_code)]
 
 mod foreign {
-    // SAFETY: these are the port's declarations; each reads `len` bytes at its pointer and
-    // writes nothing.
+    // SAFETY: these are the port's declarations; each reads as many bytes at a pointer
+    // as the length after it says, and writes nothing.
     unsafe extern "C" {
         /// 0 for an accepted word, else 1, 2 or 3.
         pub fn yunthirel_check_word(word: *const u8, len: usize) -> u64;
         /// 0 for an accepted sheet, 4, or 5 + 16 * START or 6 + 16 * START.
         pub fn yunthirel_check_sheet(sheet: *const u8, len: usize) -> u64;
+        /// The refusal as above; 0 for no progressive form; else 15 and, from bit 4 on, negative
+        /// (1 bit), the main form's end (8), the lemma's length (8) and its place in the sheet.
+        pub fn yunthirel_progressive(word: *const u8, word_len: usize, sheet: *const u8, sheet_len: usize) -> u64;
+        /// The refusal as above; else 0 in the lowest four bits, then origin (2 bits) and source (2).
+        pub fn yunthirel_origin(word: *const u8, word_len: usize, sheet: *const u8, sheet_len: usize) -> u64;
+        /// The confidence of the origin; 0.0 for a refusal.
+        pub fn yunthirel_confidence(word: *const u8, word_len: usize, sheet: *const u8, sheet_len: usize) -> f32;
     }
 }
 
@@ -23,4 +30,19 @@ pub fn check_word(word: &[u8]) -> u64 {
 pub fn check_sheet(sheet: &[u8]) -> u64 {
     // SAFETY: as above.
     unsafe { foreign::yunthirel_check_sheet(sheet.as_ptr(), sheet.len()) }
+}
+
+pub fn progressive(word: &[u8], sheet: &[u8]) -> u64 {
+    // SAFETY: as above, for two slices.
+    unsafe { foreign::yunthirel_progressive(word.as_ptr(), word.len(), sheet.as_ptr(), sheet.len()) }
+}
+
+pub fn origin(word: &[u8], sheet: &[u8]) -> u64 {
+    // SAFETY: as above.
+    unsafe { foreign::yunthirel_origin(word.as_ptr(), word.len(), sheet.as_ptr(), sheet.len()) }
+}
+
+pub fn confidence(word: &[u8], sheet: &[u8]) -> f32 {
+    // SAFETY: as above.
+    unsafe { foreign::yunthirel_confidence(word.as_ptr(), word.len(), sheet.as_ptr(), sheet.len()) }
 }
