@@ -224,7 +224,7 @@ fn first_rows(
 }
 
 // The readings with this stem; whether the stem is a supported progressive form, which is never stripped, is known already.
-pub fn with_stem(
+pub(crate) fn with_stem(
     word: &[u8],
     sheet: &[u8],
     starts: &[Start],

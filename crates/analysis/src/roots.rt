@@ -19,7 +19,7 @@ ghost use Rattle.analysis.specs.Places.{rootFound};
 
 // What has been collected, with the reading of this root where it is supported. The stem is the word's first `stem` bytes, the
 // root begins at byte `root`, and `rows` are the prefix rows, 0 where there are fewer than two.
-pub fn with_root(
+pub(crate) fn with_root(
     word: &[u8],
     sheet: &[u8],
     starts: &[Start],

@@ -74,7 +74,7 @@ fn pushed(c: Chain, s: Segment) -> Chain
 
 // The readings of the piece that is the word's first `end` bytes, with the suffixes stripped so far: those that take it for the
 // stem, then those that strip one of the first `rows` rows and go on.
-pub fn visit(
+pub(crate) fn visit(
     word: &[u8],
     sheet: &[u8],
     starts: &[Start],

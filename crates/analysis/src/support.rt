@@ -20,7 +20,7 @@ pub struct Support {
 }
 
 // Whether the sheet knows the name that p and then q make, by w or by h.
-pub fn is_known(sheet: &[u8], starts: &[Start], p: &[u8], q: &[u8]) -> bool
+pub(crate) fn is_known(sheet: &[u8], starts: &[Start], p: &[u8], q: &[u8]) -> bool
     requires { ⌜ Indexed (now sheet) (now starts) ⌝ }
     ensures { λ r. ⌜ r ≡ isKnown (reply (now (sheet .entry))) (now (p .entry) ++ now (q .entry)) ⌝ }
 {
@@ -32,7 +32,13 @@ pub fn is_known(sheet: &[u8], starts: &[Start], p: &[u8], q: &[u8]) -> bool
 }
 
 // Whether the sheet knows the piece with one of the 25 texts appended.
-pub fn has_sibling(sheet: &[u8], starts: &[Start], texts: &[u8], cuts: &[u16], piece: &[u8]) -> bool
+pub(crate) fn has_sibling(
+    sheet: &[u8],
+    starts: &[Start],
+    texts: &[u8],
+    cuts: &[u16],
+    piece: &[u8],
+) -> bool
     requires { ⌜ Indexed (now sheet) (now starts) × Laid affixes (now texts) (now cuts) ⌝ }
     ensures { λ r. ⌜ r ≡ hasSibling (reply (now (sheet .entry))) (now (piece .entry)) ⌝ }
 {
@@ -58,7 +64,7 @@ fn points_for(b: bool, n: u16) -> u16
 }
 
 // The score of a reading whose root has this support: the surface has so many characters, and so many affixes are stripped.
-pub fn score(surface: u16, s: Support, prefixes: u8, suffixes: u8) -> u16
+pub(crate) fn score(surface: u16, s: Support, prefixes: u8, suffixes: u8) -> u16
     requires { ⌜ (surface ≤ 192) × (prefixes ≤ 2) × (suffixes ≤ 4) ⌝ }
     ensures { λ r. ⌜ r ≡ scoreFrom surface s prefixes suffixes ⌝ }
 {
@@ -70,7 +76,7 @@ pub fn score(surface: u16, s: Support, prefixes: u8, suffixes: u8) -> u16
 }
 
 // Whether a root of so many bytes with this support is supported: an empty one never is.
-pub fn is_supported(s: Support, len: usize) -> bool
+pub(crate) fn is_supported(s: Support, len: usize) -> bool
     ensures { λ r. ⌜ r ≡ supports s len ⌝ }
 {
     if len == 0 {
@@ -89,7 +95,7 @@ pub fn is_supported(s: Support, len: usize) -> bool
 }
 
 // What the sheet says of a root; whether it is a supported progressive form is known already.
-pub fn support_of(
+pub(crate) fn support_of(
     sheet: &[u8],
     starts: &[Start],
     texts: &[u8],

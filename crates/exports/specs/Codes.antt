@@ -1,7 +1,8 @@
 -- How the static library's functions give their answers as numbers: document 01's number of a refusal in the lowest four bits, and
--- above them, for 5 and 6, the first byte of the faulty line; what is found stands above the lowest four bits too. Assumes nothing.
+-- above them, for 5 and 6, the first byte of the faulty line; an origin stands above them too, and a form has 15 in them, which is no refusal's number. Assumes nothing.
 use Prim.Native.Nat.{ℕ, _+_, _*_}
 use mathlib.Core.Bool.{Bool, true, false}
+use mathlib.Core.List.{List, [], _∷_}
 use lib.Ieee.{Float}
 use Rattle.runs.specs.Runs.{pick}
 use Rattle.tables.specs.declared.origins.Origin.{Origin}
@@ -9,10 +10,12 @@ use Rattle.tables.specs.declared.origins.Origin.the-variants.{Tatsam, Tadbhav, 
 use Rattle.sheet.specs.Lines.{sheetNumber}
 use Rattle.sheet.specs.declared.check.SheetCheck.{SheetCheck}
 use Rattle.sheet.specs.declared.check.SheetCheck.the-variants.{Accepted, TooLong, NoForm, NotAbove}
+use Rattle.progressive.specs.Answers.{answerNumber}
 use Rattle.progressive.specs.declared.find.Progressive.{Progressive}
 use Rattle.progressive.specs.declared.entry.Answer.{Answer}
 use Rattle.progressive.specs.declared.entry.Answer.the-variants as answers
 use Rattle.origin.specs.Decisions.{none}
+use Rattle.origin.specs.Answers.{numbersOf}
 use Rattle.origin.specs.declared.OriginSource.{OriginSource}
 use Rattle.origin.specs.declared.OriginSource.the-variants.{Override, Kosha, Heuristic, Unknown}
 use Rattle.origin.specs.declared.OriginDecision.{OriginDecision}
@@ -44,21 +47,22 @@ abbrev pub formCode : Progressive → ℕ
 formCode f = pick (f .found) (15 + 16 * bit (f .negative) + placesCode f) 0
 
 abbrev pub progressiveCode : Answer → ℕ
-progressiveCode answers.WordTooLong = 1
-progressiveCode answers.WordNotUtf8 = 2
-progressiveCode answers.WordForbidden = 3
-progressiveCode answers.SheetTooLong = 4
-progressiveCode (answers.SheetNoForm at) = 5 + 16 * at
-progressiveCode (answers.SheetNotAbove at) = 6 + 16 * at
+progressiveCode answers.WordTooLong = answerNumber answers.WordTooLong
+progressiveCode answers.WordNotUtf8 = answerNumber answers.WordNotUtf8
+progressiveCode answers.WordForbidden = answerNumber answers.WordForbidden
+progressiveCode answers.SheetTooLong = answerNumber answers.SheetTooLong
+progressiveCode (answers.SheetNoForm at) = answerNumber (answers.SheetNoForm at) + 16 * at
+progressiveCode (answers.SheetNotAbove at) = answerNumber (answers.SheetNotAbove at) + 16 * at
 progressiveCode (answers.Given form) = formCode form
 
+-- a number alone, or with the first byte of the faulty line
+abbrev pub coded : List ℕ → ℕ
+coded [] = 0
+coded (n ∷ []) = n
+coded (n ∷ at ∷ more) = n + 16 * at
+
 abbrev pub refusalCode : Refusal → ℕ
-refusalCode refusals.WordTooLong = 1
-refusalCode refusals.WordNotUtf8 = 2
-refusalCode refusals.WordForbidden = 3
-refusalCode refusals.SheetTooLong = 4
-refusalCode (refusals.SheetNoForm at) = 5 + 16 * at
-refusalCode (refusals.SheetNotAbove at) = 6 + 16 * at
+refusalCode r = coded (numbersOf r)
 
 abbrev pub originNumber : Origin → ℕ
 originNumber Tatsam = 0

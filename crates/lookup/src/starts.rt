@@ -11,7 +11,7 @@ pub type Start = u16;
 
 // Where the first byte `stop` at or after `from` stands; the length where there is none.
 // It takes any place up to the length.
-pub fn until(s: &[u8], from: usize, stop: u8) -> usize
+pub(crate) fn until(s: &[u8], from: usize, stop: u8) -> usize
     requires { ⌜ from ≤ length (now s) ⌝ }
     ensures { λ r. ⌜ (r ≡ from + upto stop (drop from (now (s .entry)))) × (r ≤ length (now (s .entry))) ⌝ }
 {

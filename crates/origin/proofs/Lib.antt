@@ -1,4 +1,5 @@
 pub mod Marked
+pub mod Numbers
 pub mod Stems
 pub mod Decided
 pub mod Contained

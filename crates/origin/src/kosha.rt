@@ -31,7 +31,7 @@ fn if_untagged(other: Known, tag: Tag) -> Known
 }
 
 // What the sheet says of a name. The sheet is accepted and `starts` is its list.
-pub fn known_by(sheet: &[u8], starts: &[Start], name: &[u8]) -> Known
+pub(crate) fn known_by(sheet: &[u8], starts: &[Start], name: &[u8]) -> Known
     requires { ⌜ Indexed (now sheet) (now starts) ⌝ }
     ensures { λ r. ⌜ r ≡ knownBy (reply (now (sheet .entry))) (now (name .entry)) ⌝ }
 {
@@ -105,7 +105,7 @@ fn known_among(sheet: &[u8], starts: &[Start], word: &[u8], texts: &[u8], cuts: 
 
 // What the sheet knows of a remainder of the word under one of STRIP_SUFFIXES, which are named here and lent to the search.
 // The sheet is accepted and `starts` is its list.
-pub fn known_stem(sheet: &[u8], starts: &[Start], word: &[u8]) -> Known
+pub(crate) fn known_stem(sheet: &[u8], starts: &[Start], word: &[u8]) -> Known
     requires { ⌜ Indexed (now sheet) (now starts) ⌝ }
     ensures { λ r. ⌜ r ≡ knownStem (reply (now (sheet .entry))) (now (word .entry)) ⌝ }
 {

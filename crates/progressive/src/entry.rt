@@ -25,8 +25,8 @@ pub enum Answer {
     Given(Progressive),
 }
 
-// The progressive form of the word, with a list of the sheet's lines made for this one search. 6,554 places are enough for every
-// accepted sheet.
+// The progressive form of the word, with a list of the sheet's lines made for this one search. It has room for the 6,553 lines
+// that an accepted sheet has at most, and one more.
 fn indexed(word: &[u8], sheet: &[u8]) -> Progressive
     requires { ⌜ sheetCheck (now sheet) ≡ Accepted ⌝ }
     ensures { λ r. ⌜ FormAt (now (sheet .entry)) (now (word .entry)) r ⌝ }
@@ -77,7 +77,8 @@ fn form_of(answer: Answer) -> Progressive
     }
 }
 
-// The found lemma, as the part of the sheet that holds its name; an empty part for none, and for a refused word or sheet.
+// The found lemma, as the part of the sheet that holds its name; an empty part for none, and for a refused word or sheet. The
+// statement tells the part's bytes; the place at which it is cut is `lemma_at` of `analyze_progressive`'s answer, in its `w` line.
 pub fn lemma<'w, 's>(word: &'w [u8], sheet: &'s [u8]) -> &'s [u8]
     ensures { λ r. ⌜ (now r ≡ lemmaPart (now (sheet .entry)) (answerOf (now (word .entry)) (now (sheet .entry)))) × (now r ≡ lemmaText (now (word .entry)) (now (sheet .entry))) ⌝ }
 {

@@ -154,7 +154,8 @@ fn insert_at(list: Listing, at: usize, r: Reading) -> Listing
     next
 }
 
-// What has been collected with one reading more, in its place by rank, or the mark that there are too many.
+// What has been collected with one reading more, in its place by rank, or the mark that there are too many. Free: the rows past the
+// count, and all rows once there are too many.
 pub fn add(word: &[u8], found: Found, r: Reading) -> Found
     ensures { λ f. ⌜ foundOf f ≡ plus (now (word .entry)) (foundOf found) r ⌝ }
 {
@@ -173,7 +174,7 @@ pub fn add(word: &[u8], found: Found, r: Reading) -> Found
     }
 }
 
-// Nothing collected.
+// Nothing collected. Free: the rows, all past the count.
 pub fn nothing() -> Found
     ensures { λ f. ⌜ (foundOf f ≡ rows []) × (rowsOf (f .list) ≡ []) ⌝ }
 {

@@ -69,7 +69,7 @@ fn skip_threes(s: &[u8], from: usize) -> usize
 }
 
 // Reads the name that begins at `from`.
-pub fn read_name(s: &[u8], from: usize) -> NameRead
+pub(crate) fn read_name(s: &[u8], from: usize) -> NameRead
     requires { ⌜ from ≤ length (now s) ⌝ }
     ensures { λ r. ⌜ (r .end ≡ from + nameRun (drop from (now (s .entry)))) × (r .end ≤ length (now (s .entry))) × (r .good ≡ isName (front (drop from (now (s .entry))))) ⌝ }
 {

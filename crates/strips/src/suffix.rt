@@ -1,5 +1,5 @@
-// The remainders of a piece under a suffix: the plain one, and the one that shares the suffix's first character. Readings, decompose,
-// candidates and origin all strip by `suffix_rests`; decompose and candidates ask `bars` first.
+// The remainders of a piece under a suffix: the plain one, and the one that shares the suffix's first character. Readings
+// and origin strip by `suffix_rests`, and so do decompose and candidates, which ask `bars` first.
 ghost use mathlib.Core.Path.{_≡_};
 ghost use Prim.Native.Nat.{_≤_};
 ghost use lib.ListN.{length};

@@ -10,7 +10,7 @@ ghost use Rattle.tables.specs.Origins.{letters};
 pub mod origins;
 pub mod rows;
 
-// Row k of a lent table, a part of its bytes. It refuses a row past the last, and starts that do not cut the bytes.
+// Row k of a lent table, a part of its bytes. It asks for starts that cut the bytes and a row that is there.
 pub fn row<'b, 's>(bytes: &'b [u8], starts: &'s [u16], k: usize) -> &'b [u8]
     requires { ⌜ Cuts (now bytes) (now starts) × (k + 1 < length (now starts)) ⌝ }
     ensures { λ r. ⌜ now r ≡ rowAt (now (bytes .entry)) (now (starts .entry)) k ⌝ }
