@@ -1,4 +1,5 @@
-//! Times the port's check of a sheet against `std::str::from_utf8` on the same bytes.
+//! Times the port's check of a sheet against `std::str::from_utf8` on the same bytes, and the port's answers for a word
+//! against the check of their sheet, which every answer makes first.
 //!
 //!     bench
 //!
@@ -10,7 +11,38 @@ use std::time::{Duration, Instant};
 
 const ROUNDS: usize = 15;
 
+// It ends in suffixes of the strip step and in a progressive ending, and is in no sheet: the search goes to its end.
+const WORD: &str = "नपकिरहेको";
+
 fn main() {
+    checks();
+    answers();
+}
+
+fn answers() {
+    println!("{:>8} {:>7} {:>15} {:>20}", "bytes", "lines", "origin / check", "progressive / check");
+    for limit in [256, 4_096, 16_384, 32_768, acceptance::SHEET_LIMIT] {
+        let sheet = full_sheet(limit);
+        let turns = (4_000_000 / sheet.len()).max(1);
+        let (mut check, mut origin, mut progressive) = (Duration::MAX, Duration::MAX, Duration::MAX);
+        for _ in 0..ROUNDS {
+            check = check.min(time(turns, || {
+                black_box(compare::port::check_sheet(black_box(&sheet)));
+            }));
+            origin = origin.min(time(turns, || {
+                black_box(compare::port::origin(black_box(WORD.as_bytes()), black_box(&sheet)));
+            }));
+            progressive = progressive.min(time(turns, || {
+                black_box(compare::port::progressive(black_box(WORD.as_bytes()), black_box(&sheet)));
+            }));
+        }
+        let lines = sheet.iter().filter(|&&byte| byte == b'\n').count();
+        let ratio = |time: Duration| time.as_secs_f64() / check.as_secs_f64();
+        println!("{:8} {lines:7} {:15.2} {:20.2}", sheet.len(), ratio(origin), ratio(progressive));
+    }
+}
+
+fn checks() {
     println!("{:>8} {:>7} {:>12} {:>12} {:>7}", "bytes", "lines", "check, us", "utf8, us", "ratio");
     for limit in [256, 4_096, 16_384, 32_768, acceptance::SHEET_LIMIT] {
         let sheet = full_sheet(limit);
