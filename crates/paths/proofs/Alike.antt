@@ -43,7 +43,7 @@ module _ (w : List ℕ) where
       back-part w piece (formOf row) left (ap (λ (l : List ℕ). formOf row ++ l) (s .1) ∙ sym (begins-front (formOf row) piece (s .0)))
       (prefix-form-text row h .utf8) t
 
-  left-part : (piece : List ℕ) (x : Strip) (left : List ℕ) → x .row < 25 → Part w piece → leftBy piece x ≡ left ∷ [] → Part w left
+  pub left-part : (piece : List ℕ) (x : Strip) (left : List ℕ) → x .row < 25 → Part w piece → leftBy piece x ≡ left ∷ [] → Part w left
   left-part piece x left h t e = subst (Part w) (sym (left-says piece x left e .1)) (go (x .isShared))
     where
       u : isUtf8 (textOf x) ≡ true

@@ -45,7 +45,7 @@ module _ (ask : Ask) where
       )
 
   -- the root with forms before it, which hold no `|`
-  prefix-front : (piece rows root : List ℕ) → Prefixed ask piece rows root → (f : List ℕ) × (holds 0x7C f ≡ false) × (piece ≡ f ++ root)
+  pub prefix-front : (piece rows root : List ℕ) → Prefixed ask piece rows root → (f : List ℕ) × (holds 0x7C f ≡ false) × (piece ≡ f ++ root)
   prefix-front piece [] root p = ([], refl, p)
   prefix-front piece (row ∷ rows) root p =
       let s = prefix-says piece (formOf row) (p .2 .0) (p .2 .1) in
@@ -56,7 +56,7 @@ module _ (ask : Ask) where
       )
 
   -- a stem is a front part of the word
-  suffix-back : (n : ℕ) (piece : List ℕ) (strips : List Strip) (stem : List ℕ) → Suffixed ask n piece strips stem → (b : List ℕ) × (piece ≡ stem ++ b)
+  pub suffix-back : (n : ℕ) (piece : List ℕ) (strips : List Strip) (stem : List ℕ) → Suffixed ask n piece strips stem → (b : List ℕ) × (piece ≡ stem ++ b)
   suffix-back n piece [] stem p = ([], p ∙ sym (append-nil stem))
   suffix-back n piece (x ∷ strips) stem p =
       let l = left-front piece x (p .2 .0) (p .2 .1) in

@@ -22,3 +22,4 @@ pub mod Alike
 pub mod Cuts
 pub mod Joined
 pub mod Keys
+pub mod Stated

@@ -2,3 +2,4 @@ pub mod Support
 pub mod Chains
 pub mod Readings
 pub mod Walk
+pub mod Rank
