@@ -16,7 +16,8 @@ use Rattle.sheet.specs.Replies.{Reply, unknown, told, Ask, lettersTold}
 use Rattle.progressive.specs.Progressive.{rahanu, virama, signAA, letterAA, letterNa, isVerb, Lemma, none, lemma, verbOr, regular, decided, lemmaOf, Outcome, no, negative, first, searched, linkedOf, stemOf, isShaped, progressiveOf, isYes, isProgressive}
 use Rattle.paths.specs.Support.{isKnown, knownWith, hasSibling, isSupported}
 use Rattle.paths.proofs.Shape.{na-utf8, ending, signed}
-use Rattle.paths.proofs.Own.{Part, Run, Own, alone, with-text, with-nu, with-virama, with-u, of-rahanu, link, infinitive, front-part, back-part}
+use Rattle.paths.specs.Questions.{Part, Run, Own, alone, with-text, with-nu, with-virama, with-u, of-rahanu, link, infinitive}
+use Rattle.paths.proofs.Own.{front-part, back-part}
 
 positive : (s : List ℕ) → eqb (length s) 0 ≡ false → 0 < length s
 positive [] e = let z : _≡_ {A = ℕ} 0 1 = cc in absurd (omega arith)

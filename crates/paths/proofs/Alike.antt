@@ -31,7 +31,8 @@ use Rattle.paths.proofs.Routes.{plainly, sharing}
 use Rattle.paths.proofs.Members.{prefix-few, left-few}
 use Rattle.paths.proofs.Left.{kept, left-says, prefix-says}
 use Rattle.paths.proofs.Unique.{rows-fewer}
-use Rattle.paths.proofs.Own.{Part, Run, Own, alone, kind, whole-part, front-part, back-part}
+use Rattle.paths.specs.Questions.{Part, Run, Own, alone, kind}
+use Rattle.paths.proofs.Own.{whole-part, front-part, back-part}
 use Rattle.paths.proofs.Agreed.{sibling-same, progressive-same, supported-same, supported-run}
 
 -- What is left of a part is a part.

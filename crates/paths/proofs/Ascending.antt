@@ -17,16 +17,14 @@ use Rattle.ranking.specs.Rank.{isLess}
 use Rattle.paths.specs.Support.{isSupported}
 use Rattle.paths.specs.Chains.{Strip, leftBy, allRows, rowsAfter, formOf, Route}
 use Rattle.paths.specs.Readings.{partsOf}
+use Rattle.paths.specs.Rank.{placeOf}
 use Rattle.paths.specs.Walk.{onLeft}
 use Rattle.paths.proofs.Routes.{overRows, Front, behind, bare, frontsAt, frontsFrom, stemRoute, under, stripped, plainly, sharing, routesAt, routesFrom, routes}
 use Rattle.paths.proofs.Members.{of-map, of-pick, of-over}
-use Rattle.paths.proofs.Pairs.{Pairwise, Distinct, pairwise-append, pairwise-pick, pairwise-left, pairwise-over, pairwise-map, pairwise-weaker}
+use Rattle.paths.specs.Counted.{Pairwise, Distinct}
+use Rattle.paths.proofs.Pairs.{pairwise-append, pairwise-pick, pairwise-left, pairwise-over, pairwise-map, pairwise-weaker}
 use Rattle.paths.proofs.Sound.{sound}
 use Rattle.paths.proofs.Unique.{unique}
-
--- a strip's place: by its row (rows are numbered by later group first, then table place), then plain before shared
-abbrev pub placeOf : Strip → ℕ
-placeOf x = x .row + x .row + pick (x .isShared) 1 0
 
 -- strip by strip from the outermost, then prefix row by prefix row; a path that ends comes before one that goes on
 abbrev pub pathOrder : Route → Route → Order

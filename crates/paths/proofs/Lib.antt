@@ -23,3 +23,4 @@ pub mod Cuts
 pub mod Joined
 pub mod Keys
 pub mod Stated
+pub mod Promises

@@ -20,7 +20,8 @@ use Rattle.paths.proofs.Sound.{sound}
 use Rattle.paths.proofs.Complete.{complete}
 use Rattle.paths.proofs.Ascending.{readings-distinct}
 use Rattle.paths.proofs.Bounded.{rankedAll, few-stay, many-over}
-use Rattle.paths.proofs.Pigeon.{AtLeast, pigeon}
+use Rattle.paths.specs.Counted.{AtLeast}
+use Rattle.paths.proofs.Pigeon.{pigeon}
 
 isOver : Rows → ℕ
 isOver (rows xs) = 0

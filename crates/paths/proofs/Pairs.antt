@@ -7,18 +7,10 @@ use mathlib.Core.Path.{_≡_, refl, sym, subst}
 use mathlib.Core.Logic.{⊎-elim}
 use mathlib.Core.List.{List, [], _∷_, _++_, map, List·Memᴰ, List·Memᴰ·head, List·Memᴰ·tail, List·Memᴰ·append-cases}
 use Rattle.runs.specs.Runs.{pick}
+use Rattle.paths.specs.Counted.{Pairwise}
 use Rattle.paths.specs.Walk.{onLeft}
 use Rattle.paths.proofs.Routes.{overRows}
 use Rattle.paths.proofs.Members.{of-map, of-over}
-
--- each element stands so to all that come after it
-abbrev pub Pairwise : {A : Type 0} → (A → A → Type 0) → List A → Type 0
-Pairwise R [] = Unit {0}
-Pairwise {A} R (x ∷ xs) = ((y : A) → List·Memᴰ y xs → R x y) × Pairwise R xs
-
--- without repeats
-abbrev pub Distinct : {A : Type 0} → List A → Type 0
-Distinct {A} xs = Pairwise (λ (x y : A). x ≡ y → ⊥) xs
 
 module _ {A : Type 0} (R : A → A → Type 0) where
   pub pairwise-append : (xs ys : List A) → Pairwise R xs → Pairwise R ys → ((x y : A) → List·Memᴰ x xs → List·Memᴰ y ys → R x y) → Pairwise R (xs ++ ys)

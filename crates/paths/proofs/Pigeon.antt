@@ -7,7 +7,7 @@ use mathlib.Core.Logic.{_↔_, ⊎-elim}
 use mathlib.Core.List.{List, [], _∷_, List·Memᴰ, List·Memᴰ·head, List·Memᴰ·tail, List·Memᴰ·not-nil, List·Memᴰ·cases-cons}
 use lib.ListN.{length, take}
 use lib.Seq.{length-take-le}
-use Rattle.paths.proofs.Pairs.{Distinct}
+use Rattle.paths.specs.Counted.{Distinct, AtLeast}
 
 module _ {A : Type 0} where
   -- the list without one of its elements
@@ -43,10 +43,6 @@ module _ {A : Type 0} where
   take-distinct zero es d = tt
   take-distinct (suc n) [] d = tt
   take-distinct (suc n) (e ∷ es) d = ((λ y m. d .0 y (take-in n es y m)), take-distinct n es (d .1))
-
-  -- n different things, each with the property
-  abbrev pub AtLeast : ℕ → (A → Type 0) → Type 0
-  AtLeast n P = (xs : List A) × (length xs ≡ n) × Distinct xs × ((x : A) → List·Memᴰ x xs → P x)
 
   pub pigeon : (P : A → Type 0) (es : List A) → Distinct es → ((x : A) → List·Memᴰ x es → P x) → ((x : A) → P x → List·Memᴰ x es) → (n : ℕ)
       → (n ≤ length es) ↔ AtLeast n P

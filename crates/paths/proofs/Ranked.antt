@@ -15,7 +15,8 @@ use Rattle.paths.specs.Readings.{readingOf}
 use Rattle.paths.specs.Walk.{wordWalk}
 use Rattle.paths.proofs.Routes.{routes}
 use Rattle.paths.proofs.Walked.{word-is}
-use Rattle.paths.proofs.Pairs.{Pairwise, pairwise-map}
+use Rattle.paths.specs.Counted.{Pairwise}
+use Rattle.paths.proofs.Pairs.{pairwise-map}
 use Rattle.paths.proofs.Ascending.{before, ascending}
 use Rattle.paths.proofs.Bounded.{rankedAll}
 use Rattle.paths.proofs.Stable.{Permuted, same, skip, swap, then, Kept, InRank, in-rank}

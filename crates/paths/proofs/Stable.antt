@@ -10,7 +10,7 @@ use Rattle.runs.specs.Runs.{pick}
 use Rattle.ranking.specs.Rank.{aheadOf}
 use Rattle.ranking.specs.Lists.{ranked}
 use Rattle.ranking.specs.declared.Reading.{Reading}
-use Rattle.paths.proofs.Pairs.{Pairwise}
+use Rattle.paths.specs.Counted.{Pairwise}
 use Rattle.paths.proofs.Ranks.{ahead-turned, ahead-passes}
 use Rattle.paths.proofs.Bounded.{rankedFrom, rankedAll}
 

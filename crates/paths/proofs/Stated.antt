@@ -4,7 +4,8 @@ use Prim.Native.Nat.{ℕ, _+_, _-_, _≤_, _<_}
 use native.Mathlib.Omega.{arith}
 use mathlib.Core.Path.{_≡_, refl, sym, ap, ap₂, _∙_, subst}
 use mathlib.Core.Bool.{Bool, true, false}
-use mathlib.Core.List.{List, [], _∷_, _++_, append-assoc, head-eq-of-cons-eq, tail-eq-of-cons-eq, List·Memᴰ, List·Memᴰ·head, List·Memᴰ·tail}
+use mathlib.Core.Logic.{_↔_}
+use mathlib.Core.List.{List, [], _∷_, _++_, map, append-assoc, head-eq-of-cons-eq, tail-eq-of-cons-eq, List·Memᴰ, List·Memᴰ·head, List·Memᴰ·tail}
 use lib.ListN.{length, take, drop, length-append}
 use lib.Seq.{take-at, drop-at}
 use lib.Dec.{ltb, leb}
@@ -12,7 +13,7 @@ use borrow.Author.Tests.{lt-ltb, le-ltb, le-leb, eqb-true}
 use Rattle.runs.specs.Runs.{pick, cmp}
 use Rattle.runs.specs.declared.Order.{Order}
 use Rattle.runs.specs.declared.Order.the-variants.{Less, Equal, Greater}
-use Rattle.runs.proofs.Ordered.{turned, cmp-turned, cmp-refl}
+use Rattle.runs.proofs.Ordered.{andThen, turned, cmp-turned, cmp-refl}
 use Rattle.text.specs.Utf8.{isUtf8}
 use Rattle.text.specs.Characters.{opens, chars}
 use Rattle.strips.proofs.Parts.{begun, utf8-begun, utf8-back}
@@ -21,15 +22,20 @@ use Rattle.sheet.specs.Replies.{Ask}
 use Rattle.ranking.specs.Parts.{part}
 use Rattle.ranking.specs.Rank.{isLess, larger, rootText, aheadOf}
 use Rattle.paths.specs.Chains.{Strip, rowsAfter, Suffixed, Route, PathOf}
-use Rattle.paths.specs.Readings.{readingOf}
-use Rattle.paths.specs.Rank.{orElse, smaller, scoreBy, rankedBefore}
+use Rattle.paths.specs.Readings.{Parts, partsOf, readingOf}
+use Rattle.paths.specs.Rank.{orElse, smaller, scoreBy, placeOf, earlier, rankedOr, rankedBefore}
 use Rattle.paths.proofs.Sound.{sound}
-use Rattle.paths.proofs.Unique.{rows-fewer}
-use Rattle.paths.proofs.Pairs.{Pairwise}
+use Rattle.paths.proofs.Complete.{complete}
+use Rattle.paths.proofs.Pairs.{pairwise-map}
+use Rattle.paths.proofs.Unique.{rows-fewer, unique}
+use Rattle.paths.specs.Counted.{Pairwise, Distinct}
 use Rattle.paths.proofs.Ascending.{before}
 use Rattle.paths.proofs.Stable.{Permuted, same, skip, swap, then, Kept}
-use Rattle.paths.proofs.Ranked.{path-rank}
-use Rattle.paths.proofs.Own.{Part, whole-part}
+use Rattle.paths.proofs.Ranked.{path-rank, path-rows}
+use Rattle.paths.proofs.Bounded.{rankedAll}
+use Rattle.paths.specs.Walk.{wordWalk}
+use Rattle.paths.specs.Questions.{Part}
+use Rattle.paths.proofs.Own.{whole-part}
 use Rattle.paths.proofs.Alike.{left-part}
 use Rattle.paths.proofs.Keys.{prefix-front, suffix-back}
 
@@ -143,7 +149,7 @@ stems-decide w a b s t rest =
 
 -- the code's rank is document 01's, but for the order of paths
 pub stated : (ask : Ask) (w : List ℕ) (p q : Route) → isUtf8 w ≡ true → PathOf ask w p → PathOf ask w q
-    → rankedBefore ask w p q false ≡ aheadOf w (readingOf ask w p) (readingOf ask w q)
+    → rankedOr ask w p q false ≡ aheadOf w (readingOf ask w p) (readingOf ask w q)
 unfolding aheadOf readingOf
 stated ask w p q u a b =
     let r : smaller (p .root) (q .root) false ≡ isLess (cmp (rootText w (readingOf ask w p)) (rootText w (readingOf ask w q))) =
@@ -151,8 +157,8 @@ stated ask w p q u a b =
     go (stems-decide w (p .stem) (q .stem) (path-front ask w p u a) (path-front ask w q u b) (smaller (p .root) (q .root) false) ∙ ap (larger (length (p .stem)) (length (q .stem))) r)
   where
     go : larger (chars (p .stem)) (chars (q .stem)) (smaller (p .stem) (q .stem) (smaller (p .root) (q .root) false))
-            ≡ larger (length (p .stem)) (length (q .stem)) (isLess (cmp (rootText w (readingOf ask w p)) (rootText w (readingOf ask w q))))
-        → rankedBefore ask w p q false ≡ aheadOf w (readingOf ask w p) (readingOf ask w q)
+        ≡ larger (length (p .stem)) (length (q .stem)) (isLess (cmp (rootText w (readingOf ask w p)) (rootText w (readingOf ask w q))))
+        → rankedOr ask w p q false ≡ aheadOf w (readingOf ask w p) (readingOf ask w q)
     go e =
         ap (λ (x : Bool). larger (scoreBy ask w p) (scoreBy ask w q) (larger (length (p .strips)) (length (q .strips))
         (larger (length (p .prefixRows)) (length (q .prefixRows)) x))) e
@@ -176,7 +182,7 @@ smaller-splits s t r a b rest e = go (cmp s t) ∙ ap (λ (o : Order). pick (sma
     go Greater = refl
 
 splits : (ask : Ask) (w : List ℕ) (p q : Route) (rest : Bool)
-    → rankedBefore ask w p q rest ≡ pick (rankedBefore ask w p q false) true (pick (rankedBefore ask w q p false) false rest)
+    → rankedOr ask w p q rest ≡ pick (rankedOr ask w p q false) true (pick (rankedOr ask w q p false) false rest)
 splits ask w p q rest =
     larger-splits (scoreBy ask w p) (scoreBy ask w q) _ _ _ rest
     (larger-splits (length (p .strips)) (length (q .strips)) _ _ _ rest
@@ -201,18 +207,76 @@ permuted-member (swap a b) (List·Memᴰ·tail (List·Memᴰ·head e)) = List·M
 permuted-member (swap a b) (List·Memᴰ·tail (List·Memᴰ·tail m)) = List·Memᴰ·tail (List·Memᴰ·tail m)
 permuted-member (then p q) m = permuted-member q (permuted-member p m)
 
+permuted-back : {A : Type 0} {x : A} {xs ys : List A} → Permuted xs ys → List·Memᴰ x ys → List·Memᴰ x xs
+permuted-back same m = m
+permuted-back (skip y p) (List·Memᴰ·head e) = List·Memᴰ·head e
+permuted-back (skip y p) (List·Memᴰ·tail m) = List·Memᴰ·tail (permuted-back p m)
+permuted-back (swap a b) (List·Memᴰ·head e) = List·Memᴰ·tail (List·Memᴰ·head e)
+permuted-back (swap a b) (List·Memᴰ·tail (List·Memᴰ·head e)) = List·Memᴰ·head e
+permuted-back (swap a b) (List·Memᴰ·tail (List·Memᴰ·tail m)) = List·Memᴰ·tail (List·Memᴰ·tail m)
+permuted-back (then p q) m = permuted-back p (permuted-back q m)
+
+earlier-is : (p q : Route) → before p q ≡ earlier p q
+earlier-is p q = go (cmp (map placeOf (p .strips)) (map placeOf (q .strips))) (cmp (p .prefixRows) (q .prefixRows))
+  where
+    go : (x y : Order) → isLess (andThen x y) ≡ orElse x (orElse y false)
+    go Less y = refl
+    go Equal y = sym (last-less y)
+    go Greater y = refl
+
+-- the rows, by their paths
+pub rowPaths : Ask → List ℕ → List Route
+rowPaths ask w = path-rank ask w .rows
+
+-- their readings are what the walk gives, put in order
+pub rows-given : (ask : Ask) (w : List ℕ) → map (readingOf ask w) (rowPaths ask w) ≡ rankedAll w (wordWalk ask (chars w) w)
+unfolding rowPaths
+rows-given ask w = path-rows ask w
+
+-- every path is there, and nothing besides
+pub row-path : (ask : Ask) (w : List ℕ) (p : Route) → List·Memᴰ p (rowPaths ask w) ↔ PathOf ask w p
+unfolding rowPaths
+row-path ask w p = (
+  (λ m. sound ask w p (permuted-member (path-rank ask w .permuted) m)),
+  (λ a. permuted-back (path-rank ask w .permuted) (complete ask w p a)),
+)
+
 -- every row comes before all later ones, by document 01's rank
-pub rows-ranked : (ask : Ask) (w : List ℕ) → isUtf8 w ≡ true → Pairwise (λ p q. rankedBefore ask w p q (before p q) ≡ true) (path-rank ask w .rows)
+pub rows-ranked : (ask : Ask) (w : List ℕ) → isUtf8 w ≡ true → Pairwise (λ p q. rankedBefore ask w p q ≡ true) (rowPaths ask w)
+unfolding rowPaths
 rows-ranked ask w u =
     members-kept _ (Kept (readingOf ask w) (λ p q. before p q ≡ true) w) (path-rank ask w .rows)
     (λ p q m n k.
-    let a : PathOf ask w p = sound ask w p (permuted-member (path-rank ask w .permuted) m) in
-    let b : PathOf ask w q = sound ask w q (permuted-member (path-rank ask w .permuted) n) in
-    let e : rankedBefore ask w q p false ≡ false = stated ask w q p u b a ∙ k .0 in
-    splits ask w p q (before p q) ∙ ap (λ (x : Bool). pick (rankedBefore ask w p q false) true (pick x false (before p q))) e
-    ∙ either (rankedBefore ask w p q false) (before p q) (λ f. k .1 (sym (stated ask w p q u a b) ∙ f)))
+    let a : PathOf ask w p = row-path ask w p .0 m in
+    let b : PathOf ask w q = row-path ask w q .0 n in
+    let e : rankedOr ask w q p false ≡ false = stated ask w q p u b a ∙ k .0 in
+    splits ask w p q (earlier p q) ∙ ap (λ (x : Bool). pick (rankedOr ask w p q false) true (pick x false (earlier p q))) e
+    ∙ either (rankedOr ask w p q false) (earlier p q) (λ f. sym (earlier-is p q) ∙ k .1 (sym (stated ask w p q u a b) ∙ f)))
     (path-rank ask w .kept)
   where
     either : (x y : Bool) → (x ≡ false → y ≡ true) → pick x true y ≡ true
     either true y h = refl
     either false y h = h refl
+
+smaller-itself : (s : List ℕ) (rest : Bool) → smaller s s rest ≡ rest
+smaller-itself s rest = ap (λ (o : Order). orElse o rest) (cmp-refl s)
+
+-- no path comes before itself
+ranked-itself : (ask : Ask) (w : List ℕ) (p : Route) → rankedBefore ask w p p ≡ false
+ranked-itself ask w p =
+    larger-same (scoreBy ask w p) (scoreBy ask w p) _ refl ∙ larger-same (length (p .strips)) (length (p .strips)) _ refl
+    ∙ larger-same (length (p .prefixRows)) (length (p .prefixRows)) _ refl ∙ larger-same (chars (p .stem)) (chars (p .stem)) _ refl
+    ∙ smaller-itself (p .stem) _ ∙ smaller-itself (p .root) _ ∙ smaller-itself (map placeOf (p .strips)) _ ∙ smaller-itself (p .prefixRows) false
+
+-- no reading stands there twice
+pub rows-once : (ask : Ask) (w : List ℕ) → isUtf8 w ≡ true → Distinct (map partsOf (rowPaths ask w))
+rows-once ask w u =
+    pairwise-map (λ (x y : Parts). x ≡ y → ⊥) (λ p q. rankedBefore ask w p q ≡ true) partsOf (rowPaths ask w)
+    (λ p q m n r e.
+    let s : p ≡ q = unique ask w p q (row-path ask w p .0 m) (row-path ask w q .0 n) e in
+    let z : rankedBefore ask w p p ≡ true = ap (λ (x : Route). rankedBefore ask w p x) s ∙ r in
+    never (sym z ∙ ranked-itself ask w p))
+    (rows-ranked ask w u)
+  where
+    never : true ≡ false → ⊥
+    never h = let y : _≡_ {A = ℕ} 0 1 = ap (λ (b : Bool). pick b 0 1) h in absurd (omega arith)

@@ -1,0 +1,61 @@
+-- Demand 3, as theorems about what the walk collects for any word of UTF-8 and any replies. Assumes nothing.
+use Prim.Native.Nat.{ℕ, _≤_}
+use mathlib.Core.Path.{_≡_, refl, sym, ap, _∙_}
+use mathlib.Core.Bool.{true}
+use mathlib.Core.Logic.{_↔_}
+use mathlib.Core.List.{List, [], map, List·Memᴰ}
+use lib.ListN.{length}
+use Rattle.text.specs.Utf8.{isUtf8}
+use Rattle.text.specs.Characters.{chars}
+use Rattle.sheet.specs.Replies.{Ask, reply, Alike}
+use Rattle.ranking.specs.Lists.{Rows, rows, over, plusAll}
+use Rattle.ranking.specs.declared.Reading.{Reading}
+use Rattle.paths.specs.Chains.{Route, PathOf}
+use Rattle.paths.specs.Readings.{Parts, partsOf, IsReading, readingOf}
+use Rattle.paths.specs.Rank.{rankedBefore}
+use Rattle.paths.specs.Counted.{Pairwise, Distinct, AtLeast}
+use Rattle.paths.specs.Questions.{Own}
+use Rattle.paths.specs.Walk.{wordWalk}
+use Rattle.paths.proofs.Stated.{rowPaths, rows-given, row-path, rows-ranked, rows-once}
+use Rattle.paths.proofs.Over as counted
+use Rattle.paths.proofs.Score.{path-score}
+use Rattle.paths.proofs.Alike as questions
+
+-- what the walk collects for the word w
+abbrev pub collected : Ask → List ℕ → Rows
+collected ask w = plusAll w (rows []) (wordWalk ask (chars w) w)
+
+-- the rows of a list: every path of the word and nothing besides, no reading twice, each before all later ones by rank, each with its
+-- segments and its score, which is at most 612
+pub record Listed (ask : Ask) (w : List ℕ) (rs : List Reading) : Type 0 where
+  pub paths : List Route
+  pub each : (p : Route) → List·Memᴰ p paths ↔ PathOf ask w p
+  pub once : Distinct (map partsOf paths)
+  pub ranked : Pairwise (λ p q. rankedBefore ask w p q ≡ true) paths
+  pub rows-are : map (readingOf ask w) paths ≡ rs
+  pub scores : length w ≤ 192 → (p : Route) → List·Memᴰ p paths → readingOf ask w p .score ≤ 612
+
+module _ (ask : Ask) (w : List ℕ) where
+  -- too many just where more than 64 readings exist
+  pub over-exactly : (collected ask w ≡ over) ↔ AtLeast 65 (IsReading ask w)
+  over-exactly = counted.over-means ask w
+
+  -- otherwise all of them
+  pub listed : isUtf8 w ≡ true → (AtLeast 65 (IsReading ask w) → ⊥) → (rs : List Reading) × (collected ask w ≡ rows rs) × Listed ask w rs
+  listed u few = (
+    map (readingOf ask w) (rowPaths ask w),
+    counted.listed-means ask w few ∙ ap rows (sym (rows-given ask w)),
+    record {
+      paths = rowPaths ask w;
+      each = row-path ask w;
+      once = rows-once ask w u;
+      ranked = rows-ranked ask w u;
+      rows-are = refl;
+      scores = λ h p m. path-score ask w p h (row-path ask w p .0 m);
+    },
+  )
+
+-- two sheets alike in their replies to the word's own questions
+pub same-answer : (s t w : List ℕ) → isUtf8 w ≡ true → ((letter : ℕ) (name : List ℕ) → Own (reply s) w letter name → Alike s t letter name)
+    → collected (reply s) w ≡ collected (reply t) w
+same-answer s t w u h = ap (plusAll w (rows [])) (questions.sheets-alike s t w u h (chars w))
