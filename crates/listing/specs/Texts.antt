@@ -1,0 +1,88 @@
+-- The text of a list of readings and of a refusal (document 01, "Readings worked by hand"). Assumes nothing.
+use Prim.Native.Nat.{ℕ, zero, suc}
+use mathlib.Core.List.{List, [], _∷_, _++_, map}
+use lib.ListN.{length, take, getD}
+use Rattle.tables.specs.Rows.{prefixLabels}
+use Rattle.tables.specs.Tables.{affixes}
+use Rattle.ranking.specs.Parts.{part}
+use Rattle.ranking.specs.Rank.{rootText}
+use Rattle.ranking.specs.declared.AffixKind.{AffixKind}
+use Rattle.ranking.specs.declared.AffixKind.the-variants.{Particle, CaseMarker, PluralMarker, Postposition, ComparisonMarker}
+use Rattle.ranking.specs.declared.Segment.{Segment}
+use Rattle.ranking.specs.declared.Reading.{Reading}
+use Rattle.listing.specs.Decimal.{decimal}
+
+-- a space before every text but the first
+abbrev pub gap : ℕ → List ℕ
+gap zero = []
+gap (suc i) = 32 ∷ []
+
+abbrev pub partedFrom : ℕ → List (List ℕ) → List ℕ
+partedFrom i [] = []
+partedFrom i (t ∷ ts) = gap i ++ (t ++ partedFrom (suc i) ts)
+
+-- texts parted by one space
+abbrev pub parted : List (List ℕ) → List ℕ
+parted ts = partedFrom 0 ts
+
+-- the name of a kind
+abbrev pub kindText : AffixKind → List ℕ
+kindText Particle = 112 ∷ 97 ∷ 114 ∷ 116 ∷ 105 ∷ 99 ∷ 108 ∷ 101 ∷ []  -- particle
+kindText CaseMarker = 99 ∷ 97 ∷ 115 ∷ 101 ∷ []  -- case
+kindText PluralMarker = 112 ∷ 108 ∷ 117 ∷ 114 ∷ 97 ∷ 108 ∷ []  -- plural
+kindText Postposition = 112 ∷ 111 ∷ 115 ∷ 116 ∷ []  -- post
+kindText ComparisonMarker = 99 ∷ 111 ∷ 109 ∷ 112 ∷ []  -- comp
+
+-- (LABEL KIND)
+unfoldable pub segmentText : Segment → List ℕ
+segmentText s =
+    (40 ∷ [])  -- (
+    ++ (getD affixes (s .label) []
+    ++ ((32 ∷ [])
+    ++ (kindText (s .kind)
+    ++ (41 ∷ []))))  -- )
+
+-- the label of a row of PREFIX_FORMS
+abbrev pub labelText : ℕ → List ℕ
+labelText k = getD prefixLabels k []
+
+-- a reading's prefix labels, outermost first, and its segments, nearest the stem first
+abbrev pub prefixTexts : Reading → List (List ℕ)
+prefixTexts r = map labelText (take (r .«prefix_count») (r .prefixes))
+
+abbrev pub segmentTexts : Reading → List (List ℕ)
+segmentTexts r = map segmentText (take (r .«suffix_count») (r .segments))
+
+-- (r STEM ROOT (LABELS) (SEGMENTS) SCORE) and 0A, for a reading of the word w
+unfoldable pub rowText : List ℕ → Reading → List ℕ
+rowText w r =
+    (40 ∷ 114 ∷ 32 ∷ [])  -- (r
+    ++ (part w 0 (r .stem)
+    ++ ((32 ∷ [])
+    ++ (rootText w r
+    ++ ((32 ∷ 40 ∷ [])  -- (
+    ++ (parted (prefixTexts r)
+    ++ ((41 ∷ 32 ∷ 40 ∷ [])  -- ) (
+    ++ (parted (segmentTexts r)
+    ++ ((41 ∷ 32 ∷ [])  -- )
+    ++ (decimal (r .score)
+    ++ (41 ∷ 10 ∷ []))))))))))  -- ) and 0A
+
+abbrev pub rowTexts : List ℕ → List Reading → List ℕ
+rowTexts w [] = []
+rowTexts w (r ∷ rs) = rowText w r ++ rowTexts w rs
+
+-- (list N) and 0A, then the rows
+unfoldable pub listingText : List ℕ → List Reading → List ℕ
+listingText w rs =
+    (40 ∷ 108 ∷ 105 ∷ 115 ∷ 116 ∷ 32 ∷ [])  -- (list
+    ++ (decimal (length rs)
+    ++ ((41 ∷ 10 ∷ [])  -- ) and 0A
+    ++ rowTexts w rs))
+
+-- (refused N) or (refused N START), and 0A
+unfoldable pub refusedText : List ℕ → List ℕ
+refusedText numbers =
+    (40 ∷ 114 ∷ 101 ∷ 102 ∷ 117 ∷ 115 ∷ 101 ∷ 100 ∷ 32 ∷ [])  -- (refused
+    ++ (parted (map decimal numbers)
+    ++ (41 ∷ 10 ∷ []))  -- ) and 0A
