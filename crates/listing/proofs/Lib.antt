@@ -1,2 +1,4 @@
 pub mod Puts
 pub mod Digits
+pub mod Labels
+pub mod Parted

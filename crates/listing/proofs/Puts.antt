@@ -2,7 +2,7 @@
 use Prim.Native.Nat.{ℕ, _+_, _-_, _≤_, _<_, min}
 use native.Mathlib.Omega.{arith}
 use native.Mathlib.Nat.{add-zero}
-use mathlib.Core.Path.{_≡_, refl, sym, ap, _∙_}
+use mathlib.Core.Path.{_≡_, refl, sym, ap, subst, _∙_}
 use mathlib.Core.List.{List, [], _++_, append-assoc, append-nil}
 use lib.ListN.{length, take, drop, length-append, length-drop, take-append-drop}
 use lib.Seq.{length-take-le, take-at, drop-append-add, drop-drop, take-length, drop-length}
@@ -82,3 +82,27 @@ put-both {old} {mid} {new} {at} {m} {next} {t} {u} s a b =
         b .there (omega arith) ∙ ap (λ (k : ℕ). placed mid k u) z
         ∙ ap (λ (x : List ℕ). placed x (at + length t) u) (a .there (omega arith))
         ∙ placed-twice old at t u (omega arith)
+
+-- the same text, said otherwise
+pub put-as : {old new : List ℕ} {at next : ℕ} {t u : List ℕ} → t ≡ u → Wrote old new at next t → Wrote old new at next u
+put-as {old} {new} {at} {next} e w = subst (λ (x : List ℕ). Wrote old new at next x) e w
+
+-- a loop that puts `whole` piece by piece: what is put, and `rest`, which is to come
+pub record Upto (old new : List ℕ) (at next : ℕ) (whole rest : List ℕ) : Type 0 where
+  pub done : List ℕ
+  pub wrote : Wrote old new at next done
+  pub splits : done ++ rest ≡ whole
+
+pub upto-none : (old : List ℕ) (at : ℕ) (whole : List ℕ) → at ≤ largest → Upto old old at at whole whole
+upto-none old at whole h = record { done = []; wrote = put-nothing old at h; splits = refl }
+
+pub upto-more : {old mid new : List ℕ} {at m next : ℕ} {whole rest t rest′ : List ℕ} → length old < largest → Upto old mid at m whole rest
+    → Wrote mid new m next t → rest ≡ t ++ rest′ → Upto old new at next whole rest′
+upto-more {t = t} {rest′ = rest′} s u w e = record {
+  done = u .done ++ t;
+  wrote = put-both s (u .wrote) w;
+  splits = append-assoc (u .done) t rest′ ∙ ap (λ (x : List ℕ). u .done ++ x) (sym e) ∙ u .splits;
+}
+
+pub upto-all : {old new : List ℕ} {at next : ℕ} {whole rest : List ℕ} → Upto old new at next whole rest → rest ≡ [] → Wrote old new at next whole
+upto-all u e = put-as (sym (append-nil (u .done)) ∙ ap (λ (x : List ℕ). u .done ++ x) (sym e) ∙ u .splits) (u .wrote)

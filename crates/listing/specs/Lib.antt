@@ -1,3 +1,4 @@
 pub mod Decimal
 pub mod Placed
 pub mod Texts
+pub mod Labels
