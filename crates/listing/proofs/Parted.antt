@@ -9,7 +9,8 @@ use lib.ListN.{length, take, drop, getD, length-map, List·getD-map, drop-of-len
 use lib.Seq.{drop-cons, getD-take, length-take-le, take-all}
 use lib.Dec.{ltb}
 use borrow.Author.Tests.{ltb-true, ltb-false}
-use Rattle.listing.specs.Placed.{largest, Wrote}
+use Rattle.ranking.specs.Parts.{part}
+use Rattle.listing.specs.Placed.{Wrote}
 use Rattle.listing.specs.Texts.{gap, parted, partedFrom}
 use Rattle.listing.proofs.Puts.{put-both, put-as, Upto, upto-more, upto-all}
 
@@ -37,14 +38,13 @@ module _ {A : Type 0} where
         ∙ ap (λ (t : List ℕ). t ∷ drop (suc i) (map f (take n xs))) (List·getD-map f (take n xs) i d ∙ ap f (getD-take n xs i d h))
 
     -- a turn: a space, unless it is the first, and the next text
-    pub parted-turn : {old mid spaced new : List ℕ} {at m g next : ℕ} {whole : List ℕ} (i : ℕ) (d : A) → i < n → length old < largest
+    pub parted-turn : {old mid spaced new : List ℕ} {at m g next : ℕ} {whole : List ℕ} (i : ℕ) (d : A) → i < n
         → Upto old mid at m whole (partedFrom i (drop i (map f (take n xs)))) → Wrote mid spaced m g (gap i) → Wrote spaced new g next (f (getD xs i d))
         → Upto old new at next whole (partedFrom (i + 1) (drop (i + 1) (map f (take n xs))))
-    parted-turn {old} {mid} i d h s u a b =
-        let l = u .wrote .size in
+    parted-turn i d h u a b =
         let e : partedFrom i (drop i (map f (take n xs))) ≡ (gap i ++ f (getD xs i d)) ++ partedFrom (i + 1) (drop (i + 1) (map f (take n xs))) =
             ap (partedFrom i) (next-text i d h) ∙ rw add-one (sym (append-assoc (gap i) (f (getD xs i d)) (partedFrom (suc i) (drop (suc i) (map f (take n xs)))))) in
-        upto-more s u (put-both (omega arith) a b) e
+        upto-more u (put-both a b) e
 
     -- the end: all texts that a count k allows
     pub parted-all : {old new : List ℕ} {at next : ℕ} (k i : ℕ) → n ≡ min k (length xs) → n ≤ i
@@ -54,3 +54,7 @@ module _ {A : Type 0} where
         let z : length (map f (take n xs)) ≤ i = omega arith in
         let t : take n xs ≡ take k xs = ap (λ (m : ℕ). take m xs) e ∙ sym (take-least k (length xs) xs refl) in
         put-as (ap (λ (ys : List A). parted (map f ys)) t) (upto-all u (ap (partedFrom i) (drop-of-length-le (map f (take n xs)) z)))
+
+-- the same part, its ends said otherwise
+pub same-part : (w : List ℕ) {a b from to : ℕ} → a ≡ from → b ≡ to → part w a b ≡ part w from to
+same-part w p q = cc

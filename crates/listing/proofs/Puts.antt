@@ -7,7 +7,9 @@ use mathlib.Core.List.{List, [], _++_, append-assoc, append-nil}
 use lib.ListN.{length, take, drop, length-append, length-drop, take-append-drop}
 use lib.Seq.{length-take-le, take-at, drop-append-add, drop-drop, take-length, drop-length}
 use borrow.Rule.Slice.PartMut.{midOf, putMid, mid-len, post-is}
-use Rattle.listing.specs.Placed.{largest, placed, Wrote}
+use borrow.Author.Tests.{le-leb, lt-leb}
+use Rattle.listing.specs.Placed.{largest, placed, Wrote, writtenOf, filled}
+use Rattle.listing.specs.declared.Written.the-variants.{Bytes, TooShort}
 
 length-placed : (old : List ℕ) (at : ℕ) (text : List ℕ) → at + length text ≤ length old → length (placed old at text) ≡ length old
 unfolding placed
@@ -50,7 +52,7 @@ put-copied old text part at end e f g p =
     record {
       end = omega arith;
       size = ap length w ∙ length-placed old at text (omega arith);
-      there = λ _. w;
+      there = λ _ _. w;
     }
 
 -- no text
@@ -59,28 +61,28 @@ unfolding placed
 put-nothing old at h = record {
   end = omega arith;
   size = refl;
-  there = λ _. sym (ap (λ (k : ℕ). take at old ++ drop k old) (add-zero at) ∙ take-append-drop at old);
+  there = λ _ _. sym (ap (λ (k : ℕ). take at old ++ drop k old) (add-zero at) ∙ take-append-drop at old);
 }
 
 -- a text, and then another at the place after it
-pub put-both : {old mid new : List ℕ} {at m next : ℕ} {t u : List ℕ} → length old < largest → Wrote old mid at m t → Wrote mid new m next u
+pub put-both : {old mid new : List ℕ} {at m next : ℕ} {t u : List ℕ} → Wrote old mid at m t → Wrote mid new m next u
     → Wrote old new at next (t ++ u)
-put-both {old} {mid} {new} {at} {m} {next} {t} {u} s a b =
+put-both {old} {mid} {new} {at} {m} {next} {t} {u} a b =
     let l = length-append t u in
     record {
       end = let p = a .end in let q = b .end in omega arith;
       size = b .size ∙ a .size;
-      there = λ h. by h;
+      there = by;
     }
   where
-    by : at + length (t ++ u) ≤ length old → new ≡ placed old at (t ++ u)
-    by h =
+    by : at + length (t ++ u) ≤ largest → at + length (t ++ u) ≤ length old → new ≡ placed old at (t ++ u)
+    by g h =
         let l = length-append t u in
         let p = a .end in
         let q = a .size in
         let z : m ≡ at + length t = omega arith in
-        b .there (omega arith) ∙ ap (λ (k : ℕ). placed mid k u) z
-        ∙ ap (λ (x : List ℕ). placed x (at + length t) u) (a .there (omega arith))
+        b .there (omega arith) (omega arith) ∙ ap (λ (k : ℕ). placed mid k u) z
+        ∙ ap (λ (x : List ℕ). placed x (at + length t) u) (a .there (omega arith) (omega arith))
         ∙ placed-twice old at t u (omega arith)
 
 -- the same text, said otherwise
@@ -96,13 +98,34 @@ pub record Upto (old new : List ℕ) (at next : ℕ) (whole rest : List ℕ) : T
 pub upto-none : (old : List ℕ) (at : ℕ) (whole : List ℕ) → at ≤ largest → Upto old old at at whole whole
 upto-none old at whole h = record { done = []; wrote = put-nothing old at h; splits = refl }
 
-pub upto-more : {old mid new : List ℕ} {at m next : ℕ} {whole rest t rest′ : List ℕ} → length old < largest → Upto old mid at m whole rest
+pub upto-more : {old mid new : List ℕ} {at m next : ℕ} {whole rest t rest′ : List ℕ} → Upto old mid at m whole rest
     → Wrote mid new m next t → rest ≡ t ++ rest′ → Upto old new at next whole rest′
-upto-more {t = t} {rest′ = rest′} s u w e = record {
+upto-more {t = t} {rest′ = rest′} u w e = record {
   done = u .done ++ t;
-  wrote = put-both s (u .wrote) w;
+  wrote = put-both (u .wrote) w;
   splits = append-assoc (u .done) t rest′ ∙ ap (λ (x : List ℕ). u .done ++ x) (sym e) ∙ u .splits;
 }
 
 pub upto-all : {old new : List ℕ} {at next : ℕ} {whole rest : List ℕ} → Upto old new at next whole rest → rest ≡ [] → Wrote old new at next whole
 upto-all u e = put-as (sym (append-nil (u .done)) ∙ ap (λ (x : List ℕ). u .done ++ x) (sym e) ∙ u .splits) (u .wrote)
+
+-- The two answers of an entry. `n` is the place after the text where another buffer was lent: its length.
+
+-- the text fits in, and was put at the front
+pub written-whole : {none spent out new text : List ℕ} {n next : ℕ} → Wrote none spent 0 n text → n ≤ length out → length out < largest
+    → Wrote out new 0 next text → (Bytes n ≡ writtenOf text out) × (new ≡ filled text out)
+unfolding placed
+written-whole {out = out} {text = text} {n = n} m f s w =
+    let q = m .end in
+    let e : n ≡ length text = omega arith in
+    let z : 0 + length text ≡ length text = omega arith in
+    let t = le-leb (length text) (length out) (omega arith) in
+    (rw (t, e), rw t (w .there (omega arith) (omega arith) ∙ ap (λ (k : ℕ). text ++ drop k out) z))
+
+-- it does not
+pub written-not : {none spent out text : List ℕ} {n : ℕ} → Wrote none spent 0 n text → length out < n
+    → (TooShort ≡ writtenOf text out) × (out ≡ filled text out)
+written-not {out = out} {text = text} m f =
+    let q = m .end in
+    let t = lt-leb (length text) (length out) (omega arith) in
+    (rw t, rw t)

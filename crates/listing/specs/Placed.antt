@@ -22,7 +22,7 @@ placed old at text = take at old ++ (text ++ drop (at + length text) old)
 pub record Wrote (old new : List ℕ) (at next : ℕ) (text : List ℕ) : Type 0 where
   pub end : next ≡ min (at + length text) largest
   pub size : length new ≡ length old
-  pub there : at + length text ≤ length old → new ≡ placed old at text
+  pub there : at + length text ≤ largest → at + length text ≤ length old → new ≡ placed old at text
 
 -- what is given for a text: the number of its bytes, or that the buffer is shorter
 abbrev pub writtenOf : List ℕ → List ℕ → Written

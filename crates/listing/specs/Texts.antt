@@ -11,6 +11,8 @@ use Rattle.ranking.specs.declared.AffixKind.the-variants.{Particle, CaseMarker,
 use Rattle.ranking.specs.declared.Segment.{Segment}
 use Rattle.ranking.specs.declared.Reading.{Reading}
 use Rattle.listing.specs.Decimal.{decimal}
+use Rattle.listing.specs.declared.Refused.{Refused}
+use Rattle.listing.specs.declared.Refused.the-variants.{Number, Line}
 
 -- a space before every text but the first
 abbrev pub gap : ℕ → List ℕ
@@ -79,6 +81,11 @@ listingText w rs =
     ++ (decimal (length rs)
     ++ ((41 ∷ 10 ∷ [])  -- ) and 0A
     ++ rowTexts w rs))
+
+-- the numbers that a refusal prints
+abbrev pub numbersOf : Refused → List ℕ
+numbersOf (Number n) = n ∷ []
+numbersOf (Line n start) = n ∷ start ∷ []
 
 -- (refused N) or (refused N START), and 0A
 unfoldable pub refusedText : List ℕ → List ℕ

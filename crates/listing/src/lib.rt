@@ -1,10 +1,49 @@
 // The text of a list of readings and of a refusal, written into a lent buffer.
+use ranking::Listing;
+use rows::put_listing;
+use rows::put_refused;
+ghost use mathlib.Core.Path.{_≡_};
+ghost use Rattle.ranking.specs.Lists.{rowsOf};
+ghost use Rattle.listing.specs.Placed.{writtenOf, filled};
+ghost use Rattle.listing.specs.Texts.{listingText, numbersOf, refusedText};
+
 pub mod pieces;
 pub mod rows;
-ghost use mathlib.Core.Path.{_≡_};
 
 // How many bytes were written, or that the buffer is shorter than the text, which leaves it as it was.
 pub enum Written {
     Bytes(usize),
     TooShort,
+}
+
+// A refusal by its number, or by its number and the first byte of the faulty line.
+pub enum Refused {
+    Number(usize),
+    Line(usize, usize),
+}
+
+// Writes the text of a list of readings of the word at the front of `out`. Too short a buffer is left as it was.
+pub fn write_listing(word: &[u8], list: Listing, out: &mut [u8]) -> Written
+    ensures { λ r. ⌜ (r ≡ writtenOf (listingText (now (word .entry)) (rowsOf list)) (now (out .entry))) × (now (out .exit) ≡ filled (listingText (now (word .entry)) (rowsOf list)) (now (out .entry))) ⌝ }
+{
+    let mut none = [0u8; 0];
+    let n = put_listing(&mut none, 0, word, list);
+    if out.len() < n {
+        return Written::TooShort;
+    }
+    put_listing(out, 0, word, list);
+    Written::Bytes(n)
+}
+
+// Writes the line of a refusal at the front of `out`. Too short a buffer is left as it was.
+pub fn write_refused(refused: Refused, out: &mut [u8]) -> Written
+    ensures { λ r. ⌜ (r ≡ writtenOf (refusedText (numbersOf refused)) (now (out .entry))) × (now (out .exit) ≡ filled (refusedText (numbersOf refused)) (now (out .entry))) ⌝ }
+{
+    let mut none = [0u8; 0];
+    let n = put_refused(&mut none, 0, refused);
+    if out.len() < n {
+        return Written::TooShort;
+    }
+    put_refused(out, 0, refused);
+    Written::Bytes(n)
 }

@@ -1,5 +1,6 @@
 // The rows of a listing, put piece by piece. The tables are lent down: the labels of the prefixes with their starts, and the 25 texts
 // with theirs.
+use crate::Refused;
 use crate::pieces::put;
 use crate::pieces::put_decimal;
 use ranking::AffixKind;
@@ -9,12 +10,13 @@ use ranking::Segment;
 use ranking::part_of;
 ghost use mathlib.Core.Path.{_≡_};
 ghost use mathlib.Core.List.{[], _∷_};
-ghost use Prim.Native.Nat.{min};
+ghost use Prim.Native.Nat.{_≤_, min};
+ghost use lib.ListN.{take};
 ghost use Rattle.tables.specs.Tables.{Cuts, Laid, affixes};
 ghost use Rattle.tables.specs.Rows.{prefixLabels};
 ghost use Rattle.ranking.specs.Lists.{rowsOf};
 ghost use Rattle.listing.specs.Placed.{Wrote};
-ghost use Rattle.listing.specs.Texts.{gap, parted, kindText, segmentText, prefixTexts, segmentTexts, rowText, rowTexts};
+ghost use Rattle.listing.specs.Texts.{gap, parted, kindText, segmentText, prefixTexts, segmentTexts, rowText, rowTexts, listingText, numbersOf, refusedText};
 ghost use Rattle.listing.specs.Labels.{labelAt};
 
 fn wide8(x: u8) -> usize
@@ -115,4 +117,73 @@ fn put_segments(out: &mut [u8], at: usize, texts: &[u8], cuts: &[u16], row: Read
         i += 1;
     }
     next
+}
+
+// Puts a row: stem, root, prefix labels, segments and score of a reading.
+fn put_row(out: &mut [u8], at: usize, word: &[u8], labels: &[u8], starts: &[u16], texts: &[u8], cuts: &[u16], row: Reading) -> usize
+    requires { ⌜ Laid prefixLabels (now labels) (now starts) × Laid affixes (now texts) (now cuts) ⌝ }
+    ensures { λ r. ⌜ Wrote (now (out .entry)) (now (out .exit)) at r (rowText (now (word .entry)) row) ⌝ }
+{
+    let root = wide16(row.root);
+    let stem = wide16(row.stem);
+    let a = put(out, at, b"(r ");
+    let b = put(out, a, part_of(word, 0, stem));
+    let c = put(out, b, b" ");
+    let d = put(out, c, part_of(word, root, stem));
+    let e = put(out, d, b" (");
+    let f = put_prefixes(out, e, labels, starts, row);
+    let g = put(out, f, b") (");
+    let h = put_segments(out, g, texts, cuts, row);
+    let i = put(out, h, b") ");
+    let j = put_decimal(out, i, wide16(row.score));
+    put(out, j, b")\n")
+}
+
+// Puts the rows of a list, the first n of them.
+fn put_rows(out: &mut [u8], at: usize, word: &[u8], labels: &[u8], starts: &[u16], texts: &[u8], cuts: &[u16], list: Listing, n: usize) -> usize
+    requires { ⌜ Laid prefixLabels (now labels) (now starts) × Laid affixes (now texts) (now cuts) × (n ≤ 64) ⌝ }
+    ensures { λ r. ⌜ Wrote (now (out .entry)) (now (out .exit)) at r (rowTexts (now (word .entry)) (take n (list .rows))) ⌝ }
+{
+    let mut next = at;
+    let mut i: usize = 0;
+    while i < n {
+        let row = list.rows[i];
+        next = put_row(out, next, word, labels, starts, texts, cuts, row);
+        i += 1;
+    }
+    next
+}
+
+// Puts a list: how many rows there are, then the rows.
+pub fn put_listing(out: &mut [u8], at: usize, word: &[u8], list: Listing) -> usize
+    ensures { λ r. ⌜ Wrote (now (out .entry)) (now (out .exit)) at r (listingText (now (word .entry)) (rowsOf list)) ⌝ }
+{
+    let labels = tables::prefix_labels();
+    let starts = tables::prefix_label_starts();
+    let texts = tables::affixes();
+    let cuts = tables::affix_starts();
+    let n = least(list.count, 64);
+    let a = put(out, at, b"(list ");
+    let b = put_decimal(out, a, n);
+    let c = put(out, b, b")\n");
+    put_rows(out, c, word, &labels, &starts, &texts, &cuts, list, n)
+}
+
+// Puts a refusal: its number, and where a line is at fault the first byte of that line.
+pub fn put_refused(out: &mut [u8], at: usize, refused: Refused) -> usize
+    ensures { λ r. ⌜ Wrote (now (out .entry)) (now (out .exit)) at r (refusedText (numbersOf refused)) ⌝ }
+{
+    let a = put(out, at, b"(refused ");
+    match refused {
+        Refused::Number(n) => {
+            let b = put_decimal(out, a, n);
+            put(out, b, b")\n")
+        }
+        Refused::Line(n, start) => {
+            let b = put_decimal(out, a, n);
+            let c = put(out, b, b" ");
+            let d = put_decimal(out, c, start);
+            put(out, d, b")\n")
+        }
+    }
 }

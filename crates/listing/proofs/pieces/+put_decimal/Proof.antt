@@ -53,7 +53,7 @@ put-decimal-returns-2 : (t : ℕ) → put-decimal-lts.Need-returns-2 (claims t) 
 put-decimal-returns-2 t c =
     let d = c .before .before .before .before .before .before in
     let a = d .before .before .before .before .args in
-    rw (more-digits (a .n) (omega arith)) (put-both (omega arith) (d .put-decimal .ensures) (c .before .before .put-digit2 .ensures))
+    rw (more-digits (a .n) (omega arith)) (put-both (d .put-decimal .ensures) (c .before .before .put-digit2 .ensures))
 
 pub +put-decimal-spec : {M : Type 1} → statement M
 +put-decimal-spec = close μ-put-decimal λ t.

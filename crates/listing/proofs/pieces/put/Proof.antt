@@ -16,7 +16,7 @@ end-of-requires c κs = search needs
 
 -- src/pieces.rt:25:9
 returns : tie.Need-returns
-returns c = record { end = c .before .end-of .ensures; size = refl; there = λ h. absurd (omega arith) }
+returns c = record { end = c .before .end-of .ensures; size = refl; there = λ g h. absurd (omega arith) }
 
 -- src/pieces.rt:27:23
 sub-copy : tie.Need-sub-copy

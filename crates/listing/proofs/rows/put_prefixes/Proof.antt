@@ -1,5 +1,5 @@
 -- `rows::put_prefixes` meets its contract: the labels put so far and those to come are all of them. Assumes nothing.
-use Prim.Native.Nat.{_-_, _≤_, _<_}
+use Prim.Native.Nat.{_-_, _≤_}
 use native.Mathlib.Omega.{arith}
 use mathlib.Core.Path.{_≡_, _∙_}
 use mathlib.Core.List.{map}
@@ -7,7 +7,6 @@ use lib.ListN.{length, take, drop, length-map}
 use Rattle.tables.proofs.Laid.{laid-asks}
 use Rattle.tables.proofs.Facts.{prefix-label-count}
 use Rattle.listing.proofs.Labels.{laid-label}
-use Rattle.listing.specs.Placed.{largest}
 use Rattle.listing.specs.Texts.{labelText, parted, partedFrom}
 use Rattle.listing.proofs.Puts.{put-as, Upto, upto-none}
 use Rattle.listing.proofs.Parted.{parted-turn, parted-all}
@@ -16,7 +15,7 @@ use Rattle.listing.proofs.rows.put_prefixes.Tie as tie
 
 abbrev Inv-loop : tie.InvT-loop
 Inv-loop out₀ at labels cuts row n next₀ i₀ out next i =
-    (i ≤ n) × (n ≤ length (row .prefixes)) × (length out₀ < largest)
+    (i ≤ n) × (n ≤ length (row .prefixes))
     × Upto out₀ out at next (parted (map labelText (take n (row .prefixes)))) (partedFrom i (drop i (map labelText (take n (row .prefixes)))))
 
 abbrev μ-loop : tie.MeasureT-loop
@@ -35,7 +34,7 @@ least-requires c κs = tt
 loop-holds : tie.Need-loop-holds Inv-loop μ-loop
 loop-holds c =
     let l = places (c .before .before .before .before .before) in
-    (omega arith, omega arith, omega arith, upto-none _ _ _ (omega arith))
+    (omega arith, omega arith, upto-none _ _ _ (omega arith))
 
 element-copy-out-k : tie.Need-element-copy-out-k Inv-loop μ-loop
 element-copy-out-k c = omega arith
@@ -61,12 +60,11 @@ loop-again c =
     let l = d .loop in (
       omega arith,
       l .inv .1,
-      l .inv .2,
-      parted-turn labelText (b .args .t5 .prefixes) _ (l .inv .1) (l .i) 0 (omega arith) (l .inv .2) (l .inv .3) (p1 .put-gap .ensures) (put-as (laid-label (b .pre) _) (p2 .put-label .ensures)),
+      parted-turn labelText (b .args .t5 .prefixes) _ (l .inv .1) (l .i) 0 (omega arith) (l .inv .2) (p1 .put-gap .ensures) (put-as (laid-label (b .pre) _) (p2 .put-label .ensures)),
     )
 
 same-length : tie.Need-same-length Inv-loop μ-loop
-same-length c = c .before .loop .inv .3 .wrote .size
+same-length c = c .before .loop .inv .2 .wrote .size
 
 returns : tie.Need-returns Inv-loop μ-loop
 returns c =
@@ -74,7 +72,7 @@ returns c =
     let w = d .before .before in
     let b = w .before .before .before .before in
     let l = places b in
-    parted-all labelText (b .args .t5 .prefixes) _ (d .loop .inv .1) (b .args .t5 .«prefix_count») (d .loop .i) (omega arith) (c .loop-test .left) (d .loop .inv .3)
+    parted-all labelText (b .args .t5 .prefixes) _ (d .loop .inv .1) (b .args .t5 .«prefix_count») (d .loop .i) (omega arith) (c .loop-test .left) (d .loop .inv .2)
 
 pub put-prefixes-spec : {M : Type 1} → statement M
 put-prefixes-spec =

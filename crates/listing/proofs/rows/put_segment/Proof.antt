@@ -45,9 +45,9 @@ returns c =
     let p2 = p3 .before .before .before .before .before in
     let p1 = p2 .before .before .before .before in
     let b = p1 .before .before .before .before .before .before in
-    put-both (omega arith) (p1 .put .ensures)
-    (put-both (omega arith) (put-as (laid-label (b .pre) (b .args .s .label)) (p2 .put-label .ensures))
-    (put-both (omega arith) (p3 .put2 .ensures) (put-both (omega arith) (p4 .put-kind .ensures) (p5 .put3 .ensures))))
+    put-both (p1 .put .ensures)
+    (put-both (put-as (laid-label (b .pre) (b .args .s .label)) (p2 .put-label .ensures))
+    (put-both (p3 .put2 .ensures) (put-both (p4 .put-kind .ensures) (p5 .put3 .ensures))))
 
 pub put-segment-spec : {M : Type 1} → statement M
 put-segment-spec =

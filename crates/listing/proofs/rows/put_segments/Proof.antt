@@ -1,12 +1,11 @@
 -- `rows::put_segments` meets its contract: the segments put so far and those to come are all of them. Assumes nothing.
-use Prim.Native.Nat.{_-_, _≤_, _<_}
+use Prim.Native.Nat.{_-_, _≤_}
 use native.Mathlib.Omega.{arith}
 use mathlib.Core.Path.{_≡_, _∙_}
 use mathlib.Core.List.{map}
 use lib.ListN.{length, take, drop, length-map}
 use Rattle.ranking.specs.declared.AffixKind.the-variants.{Particle}
 use Rattle.ranking.specs.declared.Segment.{Segment}
-use Rattle.listing.specs.Placed.{largest}
 use Rattle.listing.specs.Texts.{segmentText, parted, partedFrom}
 use Rattle.listing.proofs.Puts.{put-as, Upto, upto-none}
 use Rattle.listing.proofs.Parted.{parted-turn, parted-all}
@@ -15,7 +14,7 @@ use Rattle.listing.proofs.rows.put_segments.Tie as tie
 
 abbrev Inv-loop : tie.InvT-loop
 Inv-loop out₀ at texts cuts row n next₀ i₀ out next i =
-    (i ≤ n) × (n ≤ length (row .segments)) × (length out₀ < largest)
+    (i ≤ n) × (n ≤ length (row .segments))
     × Upto out₀ out at next (parted (map segmentText (take n (row .segments)))) (partedFrom i (drop i (map segmentText (take n (row .segments)))))
 
 abbrev μ-loop : tie.MeasureT-loop
@@ -38,7 +37,7 @@ least-requires c κs = tt
 loop-holds : tie.Need-loop-holds Inv-loop μ-loop
 loop-holds c =
     let l = places (c .before .before .before .before .before) in
-    (omega arith, omega arith, omega arith, upto-none _ _ _ (omega arith))
+    (omega arith, omega arith, upto-none _ _ _ (omega arith))
 
 mul-s : tie.Need-mul-s Inv-loop μ-loop
 mul-s c = omega arith
@@ -67,12 +66,11 @@ loop-again c =
     let l = d .loop in (
       omega arith,
       l .inv .1,
-      l .inv .2,
-      parted-turn segmentText (b .args .t5 .segments) _ (l .inv .1) (l .i) noSegment (omega arith) (l .inv .2) (l .inv .3) (p1 .put-gap .ensures) (p2 .put-segment .ensures),
+      parted-turn segmentText (b .args .t5 .segments) _ (l .inv .1) (l .i) noSegment (omega arith) (l .inv .2) (p1 .put-gap .ensures) (p2 .put-segment .ensures),
     )
 
 same-length : tie.Need-same-length Inv-loop μ-loop
-same-length c = c .before .loop .inv .3 .wrote .size
+same-length c = c .before .loop .inv .2 .wrote .size
 
 returns : tie.Need-returns Inv-loop μ-loop
 returns c =
@@ -80,7 +78,7 @@ returns c =
     let w = d .before .before in
     let b = w .before .before .before .before in
     let l = places b in
-    parted-all segmentText (b .args .t5 .segments) _ (d .loop .inv .1) (b .args .t5 .«suffix_count») (d .loop .i) (omega arith) (c .loop-test .left) (d .loop .inv .3)
+    parted-all segmentText (b .args .t5 .segments) _ (d .loop .inv .1) (b .args .t5 .«suffix_count») (d .loop .i) (omega arith) (c .loop-test .left) (d .loop .inv .2)
 
 pub put-segments-spec : {M : Type 1} → statement M
 put-segments-spec =
