@@ -1,33 +1,29 @@
+-- `write_refused` meets its contract: the first call tells the length, the second writes. Assumes nothing.
+use native.Mathlib.Omega.{arith}
+use Rattle.listing.proofs.Puts.{written-whole, written-not}
 use borrow.Author.Needs.{needs}
 use Rattle.listing.proofs.write_refused.Statement.{statement}
 use Rattle.listing.proofs.write_refused.Tie as tie
-use Rattle.listing.proofs.write_refused.Reads as reads
-use Rattle.listing.proofs.write_refused.Lts as lts
-use Rattle.listing.proofs.rows.put_refused.Reads as put-refused-reads
 
--- src/lib.rt:43:25
 slice-aggregate-put-refused : tie.Need-slice-aggregate-put-refused
 slice-aggregate-put-refused c = search needs
 
--- src/lib.rt:43:9
 put-refused-requires : tie.Need-put-refused-requires
 put-refused-requires c κs = search needs
 
--- src/lib.rt:45:9
 returns : tie.Need-returns
-returns c = ?
+returns c = written-not (c .before .before .put-refused .ensures) (c .if1 .taken)
 
--- src/lib.rt:47:5
 put-refused-requires-2 : tie.Need-put-refused-requires-2
 put-refused-requires-2 c κs = search needs
 
--- src/lib.rt:39:1
 same-length : tie.Need-same-length
 same-length c = search needs
 
--- src/lib.rt:39:1
 returns-2 : tie.Need-returns-2
-returns-2 c = ?
+returns-2 c =
+    let e = c .before .before .before .before in
+    written-whole (e .before .before .put-refused .ensures) (e .if1 .left) (omega arith) (c .before .before .put-refused2 .ensures)
 
 pub write-refused-spec : {M : Type 1} → statement M
 write-refused-spec =
