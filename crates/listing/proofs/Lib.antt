@@ -2,3 +2,4 @@ pub mod Puts
 pub mod Digits
 pub mod Labels
 pub mod Parted
+pub mod Worked

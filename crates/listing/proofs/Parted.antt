@@ -43,7 +43,7 @@ module _ {A : Type 0} where
         → Upto old new at next whole (partedFrom (i + 1) (drop (i + 1) (map f (take n xs))))
     parted-turn i d h u a b =
         let e : partedFrom i (drop i (map f (take n xs))) ≡ (gap i ++ f (getD xs i d)) ++ partedFrom (i + 1) (drop (i + 1) (map f (take n xs))) =
-            ap (partedFrom i) (next-text i d h) ∙ rw add-one (sym (append-assoc (gap i) (f (getD xs i d)) (partedFrom (suc i) (drop (suc i) (map f (take n xs)))))) in
+        ap (partedFrom i) (next-text i d h) ∙ rw add-one (sym (append-assoc (gap i) (f (getD xs i d)) (partedFrom (suc i) (drop (suc i) (map f (take n xs)))))) in
         upto-more u (put-both a b) e
 
     -- the end: all texts that a count k allows

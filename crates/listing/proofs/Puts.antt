@@ -28,8 +28,8 @@ placed-twice old at t u h =
     let l : length p ≡ n = length-append (take at old) t ∙ ap (λ (k : ℕ). k + length t) (length-take-le at old (omega arith)) in
     let w : n + length u ≡ at + length (t ++ u) = omega (arith, length-append t u) in
     let d : drop (n + length u) (p ++ r) ≡ drop (at + length (t ++ u)) old =
-        ap (λ (k : ℕ). drop (k + length u) (p ++ r)) (sym l) ∙ drop-append-add p r (length u) ∙ drop-drop (length u) n old
-        ∙ ap (λ (k : ℕ). drop k old) w in
+    ap (λ (k : ℕ). drop (k + length u) (p ++ r)) (sym l) ∙ drop-append-add p r (length u) ∙ drop-drop (length u) n old
+    ∙ ap (λ (k : ℕ). drop k old) w in
     ap (λ (x : List ℕ). take n x ++ (u ++ drop (n + length u) x)) e
     ∙ ap (λ (x : List ℕ). x ++ (u ++ drop (n + length u) (p ++ r))) (take-at p r n l)
     ∙ ap (λ (x : List ℕ). p ++ (u ++ x)) d
@@ -44,11 +44,11 @@ put-copied old text part at end e f g p =
     let n : end - at ≡ length text = omega arith in
     let m : length (midOf at (end - at) old) ≡ length text = mid-len at end old f ∙ n in
     let d : drop (length text) (midOf at (end - at) old) ≡ [] =
-        ap (λ (k : ℕ). drop k (midOf at (end - at) old)) (sym m) ∙ drop-length (midOf at (end - at) old) in
+    ap (λ (k : ℕ). drop k (midOf at (end - at) old)) (sym m) ∙ drop-length (midOf at (end - at) old) in
     let q : part ≡ text = p ∙ ap (λ (x : List ℕ). x ++ drop (length text) (midOf at (end - at) old)) (take-length text) ∙ ap (λ (x : List ℕ). text ++ x) d ∙ append-nil text in
     let w : putMid at (end - at) old part ≡ placed old at text =
-        ap (λ (x : List ℕ). take at old ++ (x ++ drop (end - at) (drop at old))) q
-        ∙ ap (λ (x : List ℕ). take at old ++ (text ++ x)) (post-is at end old (omega arith) ∙ ap (λ (k : ℕ). drop k old) e) in
+    ap (λ (x : List ℕ). take at old ++ (x ++ drop (end - at) (drop at old))) q
+    ∙ ap (λ (x : List ℕ). take at old ++ (text ++ x)) (post-is at end old (omega arith) ∙ ap (λ (k : ℕ). drop k old) e) in
     record {
       end = omega arith;
       size = ap length w ∙ length-placed old at text (omega arith);

@@ -120,7 +120,16 @@ fn put_segments(out: &mut [u8], at: usize, texts: &[u8], cuts: &[u16], row: Read
 }
 
 // Puts a row: stem, root, prefix labels, segments and score of a reading.
-fn put_row(out: &mut [u8], at: usize, word: &[u8], labels: &[u8], starts: &[u16], texts: &[u8], cuts: &[u16], row: Reading) -> usize
+fn put_row(
+    out: &mut [u8],
+    at: usize,
+    word: &[u8],
+    labels: &[u8],
+    starts: &[u16],
+    texts: &[u8],
+    cuts: &[u16],
+    row: Reading,
+) -> usize
     requires { ⌜ Laid prefixLabels (now labels) (now starts) × Laid affixes (now texts) (now cuts) ⌝ }
     ensures { λ r. ⌜ Wrote (now (out .entry)) (now (out .exit)) at r (rowText (now (word .entry)) row) ⌝ }
 {
@@ -140,7 +149,17 @@ fn put_row(out: &mut [u8], at: usize, word: &[u8], labels: &[u8], starts: &[u16]
 }
 
 // Puts the rows of a list, the first n of them.
-fn put_rows(out: &mut [u8], at: usize, word: &[u8], labels: &[u8], starts: &[u16], texts: &[u8], cuts: &[u16], list: Listing, n: usize) -> usize
+fn put_rows(
+    out: &mut [u8],
+    at: usize,
+    word: &[u8],
+    labels: &[u8],
+    starts: &[u16],
+    texts: &[u8],
+    cuts: &[u16],
+    list: Listing,
+    n: usize,
+) -> usize
     requires { ⌜ Laid prefixLabels (now labels) (now starts) × Laid affixes (now texts) (now cuts) × (n ≤ 64) ⌝ }
     ensures { λ r. ⌜ Wrote (now (out .entry)) (now (out .exit)) at r (rowTexts (now (word .entry)) (take n (list .rows))) ⌝ }
 {

@@ -69,7 +69,7 @@ returns c =
     let rs = b .args .list .rows in
     let l : length rs ≡ 64 = simp length-map at (b .good .1 .1 .1 .0 .1 .1 .0 .1 .0 .1) in
     let e : take (n .least .result) rs ≡ take (b .args .list .count) rs =
-        ap (λ (m : ℕ). take m rs) (n .least .ensures) ∙ sym (take-least (b .args .list .count) 64 rs l) in
+    ap (λ (m : ℕ). take m rs) (n .least .ensures) ∙ sym (take-least (b .args .list .count) 64 rs l) in
     let k : n .least .result ≡ length (take (b .args .list .count) rs) = sym (length-take-le (n .least .result) rs (omega arith)) ∙ ap length e in
     put-both (p1 .put .ensures)
     (put-both (put-as (ap decimal k) (p2 .put-decimal .ensures))
