@@ -12,14 +12,14 @@ use Rattle.listing.specs.Decimal.{digitsIn, decimal}
 use Rattle.listing.specs.Texts.{segmentText, rowText, listingText, refusedText}
 
 -- घरले
-word : List ℕ
+abbrev word : List ℕ
 word = 224 ∷ 164 ∷ 152 ∷ 224 ∷ 164 ∷ 176 ∷ 224 ∷ 164 ∷ 178 ∷ 224 ∷ 165 ∷ 135 ∷ []
 
-unused : Segment
+abbrev unused : Segment
 unused = record { label = 0; kind = Particle }
 
 -- stem and root घर, no prefix, ले by its row among the 25 texts
-reading : Reading
+abbrev reading : Reading
 reading = record {
   stem = 6;
   root = 0;
@@ -33,7 +33,7 @@ reading = record {
 -- (list 1)
 -- (r घर घर () ((ले case)) 279)
 pub listing-worked : listingText word (reading ∷ []) ≡ 40 ∷ 108 ∷ 105 ∷ 115 ∷ 116 ∷ 32 ∷ 49 ∷ 41 ∷ 10 ∷ 40 ∷ 114 ∷ 32 ∷ 224 ∷ 164 ∷ 152 ∷ 224 ∷ 164 ∷ 176 ∷ 32 ∷ 224 ∷ 164 ∷ 152 ∷ 224 ∷ 164 ∷ 176 ∷ 32 ∷ 40 ∷ 41 ∷ 32 ∷ 40 ∷ 40 ∷ 224 ∷ 164 ∷ 178 ∷ 224 ∷ 165 ∷ 135 ∷ 32 ∷ 99 ∷ 97 ∷ 115 ∷ 101 ∷ 41 ∷ 41 ∷ 32 ∷ 50 ∷ 55 ∷ 57 ∷ 41 ∷ 10 ∷ []
-unfolding word unused reading prefixLabels pluralMarkers caseMarkers particles affixes part digitsIn decimal segmentText rowText listingText
+unfolding prefixLabels pluralMarkers caseMarkers particles affixes part digitsIn decimal segmentText rowText listingText
 listing-worked = refl
 
 -- (refused 4)
