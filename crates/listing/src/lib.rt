@@ -27,12 +27,12 @@ pub fn write_listing(word: &[u8], list: Listing, out: &mut [u8]) -> Written
     ensures { λ r. ⌜ (r ≡ writtenOf (listingText (now (word .entry)) (rowsOf list)) (now (out .entry))) × (now (out .exit) ≡ filled (listingText (now (word .entry)) (rowsOf list)) (now (out .entry))) ⌝ }
 {
     let mut none = [0u8; 0];
-    let n = put_listing(&mut none, 0, word, list);
-    if out.len() < n {
+    let size = put_listing(&mut none, 0, word, list);
+    if out.len() < size {
         return Written::TooShort;
     }
     put_listing(out, 0, word, list);
-    Written::Bytes(n)
+    Written::Bytes(size)
 }
 
 // Writes the line of a refusal at the front of `out`. Too short a buffer is left as it was.

@@ -1,4 +1,5 @@
 -- `write_listing` meets its contract: the first call tells the length, the second writes. Assumes nothing.
+use mathlib.Core.Path.{refl}
 use native.Mathlib.Omega.{arith}
 use Rattle.listing.proofs.Puts.{written-whole, written-not}
 use borrow.Author.Needs.{needs}
@@ -6,16 +7,16 @@ use Rattle.listing.proofs.write_listing.Statement.{statement}
 use Rattle.listing.proofs.write_listing.Tie as tie
 
 slice-aggregate-put-listing : tie.Need-slice-aggregate-put-listing
-slice-aggregate-put-listing c = search needs
+slice-aggregate-put-listing c = refl
 
 put-listing-requires : tie.Need-put-listing-requires
-put-listing-requires c κs = search needs
+put-listing-requires c κs = tt
 
 returns : tie.Need-returns
 returns c = written-not (c .before .before .put-listing .ensures) (c .if1 .taken)
 
 put-listing-requires-2 : tie.Need-put-listing-requires-2
-put-listing-requires-2 c κs = search needs
+put-listing-requires-2 c κs = tt
 
 same-length : tie.Need-same-length
 same-length c = search needs

@@ -12,7 +12,7 @@ use Rattle.listing.proofs.pieces.end_of.Reads as end-of-reads
 
 -- src/pieces.rt:23:9
 end-of-requires : tie.Need-end-of-requires
-end-of-requires c κs = search needs
+end-of-requires c κs = tt
 
 -- src/pieces.rt:25:9
 returns : tie.Need-returns

@@ -10,7 +10,7 @@ use Rattle.listing.proofs.rows.put_label.Statement.{statement}
 use Rattle.listing.proofs.rows.put_label.Tie as tie
 
 wide8-requires : tie.Need-wide8-requires
-wide8-requires c κs = search needs
+wide8-requires c κs = tt
 
 add-if1 : tie.Need-add-if1
 add-if1 c = search needs
@@ -24,7 +24,7 @@ row-requires : tie.Need-row-requires
 row-requires c κs = search needs
 
 put-requires : tie.Need-put-requires
-put-requires c κs = search needs
+put-requires c κs = tt
 
 same-length : tie.Need-same-length
 same-length c = search needs
