@@ -33,9 +33,11 @@ use Rattle.lookup.proofs.Halves.{place-asks}
 use Rattle.progressive.specs.declared.find.Progressive.{Progressive}
 use Rattle.progressive.specs.declared.entry.Answer.{Answer}
 use Rattle.progressive.specs.declared.entry.Answer.the-variants as answers
+use Rattle.progressive.specs.declared.entry.Supported.{Supported}
+use Rattle.progressive.specs.declared.entry.Supported.the-variants as supports
 use Rattle.progressive.specs.Progressive.{Outcome, no, yes, progressiveOf}
 use Rattle.progressive.specs.Found.{formOf}
-use Rattle.progressive.specs.Answers.{answerIf, answerOf, Lies, Analyzed}
+use Rattle.progressive.specs.Answers.{answerIf, answerOf, Lies, Analyzed, supportedIf, supportedOf}
 use Rattle.origin.specs.Answers.{decisionIf, decisionAnswer}
 use Rattle.origin.specs.declared.entries.DecisionAnswer.{DecisionAnswer}
 use Rattle.origin.specs.declared.entries.DecisionAnswer.the-variants as decisions
@@ -100,7 +102,23 @@ form-small w s r f k e =
     let l = subst (Lies w s) e (k .lies) in
     (omega (arith, n, l), n .2, omega (arith, n, l))
 
--- the same of a decision's refusal
+-- the same of a refusal in the other answers
+abbrev PlacedSupported : Supported → Type 0
+PlacedSupported (supports.Refused r) = Placed r
+PlacedSupported (supports.Given b) = Unit {0}
+
+supported-placed : (w s : List ℕ) → PlacedSupported (supportedOf w s)
+unfolding supportedOf
+supported-placed w s = by (inputsOf w s) refl
+  where
+    by : (i : Inputs) → inputsOf w s ≡ i → PlacedSupported (supportedIf i w s)
+    by inputs.Accepted e = tt
+    by (inputs.Refused r) e = refused-placed w s r e
+
+-- the answer d turned out to be the refusal r
+pub supported-refused : (w s : List ℕ) (d : Supported) (r : Refusal) → d ≡ supportedOf w s → d ≡ supports.Refused r → Placed r
+supported-refused w s d r e f = subst PlacedSupported (sym e ∙ f) (supported-placed w s)
+
 abbrev PlacedBy : DecisionAnswer → Type 0
 PlacedBy (decisions.Decided d) = Unit {0}
 PlacedBy (decisions.Refused r) = Placed r
@@ -113,6 +131,5 @@ decision-placed w s = by (inputsOf w s) refl
     by inputs.Accepted e = tt
     by (inputs.Refused r) e = refused-placed w s r e
 
--- the answer d turned out to be the refusal r
 pub decision-refused : (w s : List ℕ) (d : DecisionAnswer) (r : Refusal) → d ≡ decisionAnswer w s → d ≡ decisions.Refused r → Placed r
 decision-refused w s d r e f = subst PlacedBy (sym e ∙ f) (decision-placed w s)

@@ -13,6 +13,8 @@ use Rattle.sheet.specs.declared.inputs.Refusal.{Refusal}
 use Rattle.progressive.specs.declared.find.Progressive.{Progressive}
 use Rattle.progressive.specs.declared.entry.Answer.{Answer}
 use Rattle.progressive.specs.declared.entry.Answer.the-variants as answers
+use Rattle.progressive.specs.declared.entry.Supported.{Supported}
+use Rattle.progressive.specs.declared.entry.Supported.the-variants as supports
 use Rattle.origin.specs.Decisions.{none}
 use Rattle.origin.specs.declared.OriginSource.{OriginSource}
 use Rattle.origin.specs.declared.OriginSource.the-variants.{Override, Kosha, Heuristic, Unknown}
@@ -47,6 +49,11 @@ formCode f = pick (f .found) (15 + 16 * bit (f .negative) + placesCode f) 0
 abbrev pub progressiveCode : Answer → ℕ
 progressiveCode (answers.Refused r) = refusalCode r
 progressiveCode (answers.Given form) = formCode form
+
+-- 15 for yes, which is no refusal's number, and 0 for no
+abbrev pub supportedCode : Supported → ℕ
+supportedCode (supports.Refused r) = refusalCode r
+supportedCode (supports.Given b) = pick b 15 0
 
 abbrev pub originNumber : Origin → ℕ
 originNumber Tatsam = 0

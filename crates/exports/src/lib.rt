@@ -4,7 +4,9 @@ use origin::OriginSource;
 use origin::entries::DecisionAnswer;
 use origin::entries::classify_with_provenance;
 use progressive::entry::Answer;
+use progressive::entry::Supported;
 use progressive::entry::analyze_progressive;
+use progressive::entry::has_supported_progressive_form;
 use progressive::find::Progressive;
 use sheet::check::SheetCheck;
 use sheet::check::check_sheet;
@@ -17,9 +19,9 @@ ghost use Prim.Native.Nat.{_+_, _*_, _≤_};
 ghost use Rattle.text.specs.Word.{wordCheck, wordNumber, wordLimit};
 ghost use Rattle.sheet.specs.Lines.{sheetCheck, sheetLimit};
 ghost use Rattle.sheet.specs.Inputs.{Placed};
-ghost use Rattle.progressive.specs.Answers.{answerOf};
+ghost use Rattle.progressive.specs.Answers.{answerOf, supportedOf};
 ghost use Rattle.origin.specs.Answers.{decisionAnswer};
-ghost use Rattle.exports.specs.Codes.{sheetCode, refusalCode, formCode, progressiveCode, originNumber, sourceNumber, originCode, confidenceOf};
+ghost use Rattle.exports.specs.Codes.{sheetCode, refusalCode, formCode, progressiveCode, supportedCode, originNumber, sourceNumber, originCode, confidenceOf};
 
 // 0 for a word that is accepted, else document 01's number: 1, 2 or 3.
 #[no_mangle]
@@ -92,6 +94,23 @@ pub extern "C" fn yunthirel_progressive(word: &[u8], sheet: &[u8]) -> u64
     match answer {
         Answer::Refused(refusal) => refusal_code(refusal),
         Answer::Given(form) => form_code(form),
+    }
+}
+
+// 15 where the word is a supported progressive form, 0 where it is none; else the refusal, as `refusal_code` gives it.
+#[no_mangle]
+pub extern "C" fn yunthirel_has_progressive(word: &[u8], sheet: &[u8]) -> u64
+    ensures { λ r. ⌜ r ≡ supportedCode (supportedOf (now (word .entry)) (now (sheet .entry))) ⌝ }
+{
+    let answer = has_supported_progressive_form(word, sheet);
+    match answer {
+        Supported::Refused(refusal) => refusal_code(refusal),
+        Supported::Given(supported) => {
+            if supported {
+                return 15;
+            }
+            0
+        }
     }
 }
 

@@ -1,11 +1,12 @@
 -- What the entries hand back, by what is said of word and sheet. The proofs of `entry` cite it. Assumes nothing.
-use mathlib.Core.Path.{_≡_, sym, ap, _∙_}
+use mathlib.Core.Path.{_≡_, refl, sym, ap, _∙_}
 use mathlib.Core.List.{List, _++_}
 use Prim.Native.Nat.{ℕ, _+_, _-_, _≤_}
 use native.Mathlib.Omega.{arith}
 use lib.ListN.{length, take, drop, length-append}
 use Rattle.sheet.specs.Lines.{startsOf}
 use Rattle.sheet.specs.Inputs.{inputsOf, numbersGiven}
+use Rattle.sheet.specs.Replies.{reply}
 use Rattle.sheet.specs.declared.inputs.Refusal.{Refusal}
 use Rattle.sheet.specs.declared.inputs.Inputs.{Inputs}
 use Rattle.sheet.specs.declared.inputs.Inputs.the-variants as inputs
@@ -13,8 +14,12 @@ use Rattle.sheet.proofs.Refusals.{lowest}
 use Rattle.progressive.specs.declared.find.Progressive.{Progressive}
 use Rattle.progressive.specs.declared.entry.Answer.{Answer}
 use Rattle.progressive.specs.declared.entry.Answer.the-variants.{Refused, Given}
+use Rattle.progressive.specs.declared.entry.Supported.{Supported}
+use Rattle.progressive.specs.declared.entry.Supported.the-variants as supports
 use Rattle.progressive.specs.Found.{FormAt, partAt}
-use Rattle.progressive.specs.Answers.{answerIf, answerOf, formGiven, nameIf, lemmaText, Lies, Analyzed}
+use Rattle.progressive.specs.Answers.{answerIf, answerOf, formGiven, nameIf, lemmaText, Lies, Analyzed, supportedIf, supportedOf}
+use Rattle.progressive.specs.Progressive.{progressiveOf}
+use Rattle.progressive.proofs.Forms.{form-found}
 
 module _ (w s : List ℕ) where
   -- x is what the check of word and sheet gave
@@ -55,6 +60,20 @@ module _ (w s : List ℕ) where
       let q : take (r .«lemma_at» + r .«lemma_len» - r .«lemma_at») (drop (r .«lemma_at») s) ≡ partAt s (formGiven a) =
       ap (λ (n : ℕ). take n (drop (r .«lemma_at») s)) p ∙ ap (partAt s) e in
       (q ∙ ap (λ (x : Answer). partAt s (formGiven x)) (k .settled), q ∙ k .reads)
+
+-- an answer says whether a form is found
+abbrev pub supportGiven : Answer → Supported
+supportGiven (Refused r) = supports.Refused r
+supportGiven (Given form) = supports.Given (form .found)
+
+module _ (w s : List ℕ) where
+  pub support-settled : (r a : Answer) → Analyzed w s r → r ≡ a → supportGiven a ≡ supportedOf w s
+  unfolding answerOf supportedOf
+  support-settled r a k e = ap supportGiven (sym e ∙ k .settled) ∙ by (inputsOf w s)
+    where
+      by : (i : Inputs) → supportGiven (answerIf i w s) ≡ supportedIf i w s
+      by inputs.Accepted = ap supports.Given (form-found s w (progressiveOf (reply s) w))
+      by (inputs.Refused r) = refl
 
 -- the list of the starts has them all, with what stood behind them
 pub filled-length : (s out old : List ℕ) (r : ℕ) → r ≡ length (startsOf s) → out ≡ startsOf s ++ drop r old → r ≤ length out

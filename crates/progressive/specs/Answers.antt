@@ -10,7 +10,9 @@ use Rattle.sheet.specs.declared.inputs.Inputs.the-variants as inputs
 use Rattle.progressive.specs.declared.find.Progressive.{Progressive}
 use Rattle.progressive.specs.declared.entry.Answer.{Answer}
 use Rattle.progressive.specs.declared.entry.Answer.the-variants.{Refused, Given}
-use Rattle.progressive.specs.Progressive.{progressiveOf}
+use Rattle.progressive.specs.declared.entry.Supported.{Supported}
+use Rattle.progressive.specs.declared.entry.Supported.the-variants as supports
+use Rattle.progressive.specs.Progressive.{progressiveOf, isProgressive}
 use Rattle.progressive.specs.Found.{noForm, formOf, lemmaName, partAt}
 
 -- the form, where word and sheet are accepted
@@ -55,3 +57,11 @@ pub record Analyzed (w s : List ℕ) (r : Answer) : Type 0 where
   pub reads : lemmaPart s r ≡ lemmaText w s
   pub lies : Lies w s r
   pub numbers : answerNumbers r ≡ lowestNumbers w s
+
+-- whether the word is a supported progressive form, where word and sheet are accepted
+abbrev pub supportedIf : Inputs → List ℕ → List ℕ → Supported
+supportedIf inputs.Accepted w s = supports.Given (isProgressive (reply s) w)
+supportedIf (inputs.Refused r) w s = supports.Refused r
+
+unfoldable pub supportedOf : List ℕ → List ℕ → Supported
+supportedOf w s = supportedIf (inputsOf w s) w s

@@ -3,7 +3,7 @@ ghost use mathlib.Core.Path.{_≡_};
 ghost use Rattle.sheet.specs.Lines.{sheetCheck};
 ghost use Rattle.sheet.specs.declared.check.SheetCheck.the-variants.{Accepted};
 ghost use Rattle.progressive.specs.Found.{FormAt};
-ghost use Rattle.progressive.specs.Answers.{Analyzed, answerOf, formGiven, lemmaPart, lemmaText};
+ghost use Rattle.progressive.specs.Answers.{Analyzed, answerOf, formGiven, lemmaPart, lemmaText, supportedOf};
 use crate::find::Progressive;
 use crate::find::find_progressive;
 use crate::find::no_form;
@@ -17,6 +17,12 @@ use sheet::inputs::check_inputs;
 pub enum Answer {
     Refused(Refusal),
     Given(Progressive),
+}
+
+// The answer of `has_supported_progressive_form`.
+pub enum Supported {
+    Refused(Refusal),
+    Given(bool),
 }
 
 // The progressive form of the word, with a list of the sheet's lines made for this one search. It has room for the 6,553 lines
@@ -38,6 +44,20 @@ pub fn analyze_progressive(word: &[u8], sheet: &[u8]) -> Answer
     match inputs {
         Inputs::Refused(refusal) => Answer::Refused(refusal),
         Inputs::Accepted => Answer::Given(indexed(word, sheet)),
+    }
+}
+
+// Whether the word is a supported progressive form, one in which a lemma is found; or why word or sheet is refused.
+pub fn has_supported_progressive_form(word: &[u8], sheet: &[u8]) -> Supported
+    ensures { λ r. ⌜ r ≡ supportedOf (now (word .entry)) (now (sheet .entry)) ⌝ }
+{
+    let answer = analyze_progressive(word, sheet);
+    match answer {
+        Answer::Refused(refusal) => Supported::Refused(refusal),
+        Answer::Given(form) => {
+            let found = form.found;
+            Supported::Given(found)
+        }
     }
 }
 
