@@ -7,7 +7,8 @@ use mathlib.Core.Bool.{Bool, true, false, _&&_}
 use mathlib.Core.List.{List, [], _∷_, _++_, append-nil}
 use lib.ListN.{length, take, getD}
 use lib.Seq.{take-take, length-take-le}
-use Rattle.runs.specs.Runs.{pick}
+use lib.Dec.{ltb}
+use Rattle.runs.specs.Runs.{pick, endsIn}
 use Rattle.tables.specs.Tables.{affixes}
 use Rattle.strips.specs.Suffix.{sheds, isLong, plain, shared, restsOf, without, firstCharacter, plainLength, sharedLength}
 use Rattle.strips.specs.declared.suffix.Rests.{Rests}
@@ -62,6 +63,23 @@ module _ (w piece : List ℕ) (deeper : Chain → ℕ → List ℕ → List Read
     row-both other g q e =
         rw (pl, q, sym pn, sym pr) (e ∙ ap (λ (r : Rows). plusAll w r (deeper next rows other)) pf ∙ sym (plus-append w a (deeper next rows left) (deeper next rows other)))
 
+-- a piece that does not end in the text has no remainder
+no-shed : (p t : List ℕ) → endsIn t p ≡ false → sheds p t ≡ false
+unfolding sheds
+no-shed p t e = by (ltb (length t) (length p))
+  where
+    by : (b : Bool) → (b && endsIn t p) ≡ false
+    by true = e
+    by false = refl
+
+no-plain : (p t : List ℕ) → endsIn t p ≡ false → plain p t ≡ []
+unfolding plain
+no-plain p t e = rw (no-shed p t e)
+
+no-shared : (p t : List ℕ) → endsIn t p ≡ false → shared p t ≡ []
+unfolding shared
+no-shared p t e = rw (no-shed p t e)
+
 -- a turn of the loop over rows
 module _ (w piece : List ℕ) (deeper : Chain → ℕ → List ℕ → List Reading) (ask : Ask) (c : Chain) (k n : ℕ) (a : Rows) where
   pub row-turn : (g : Rows) → k < n → g ≡ plusAll w a (rowWalk deeper ask c piece k)
@@ -70,6 +88,11 @@ module _ (w piece : List ℕ) (deeper : Chain → ℕ → List ℕ → List Read
   row-turn g h e =
       let q : n - k ≡ suc (n - (k + 1)) = omega arith in
       rw (q, add-one k) (plus-append w a (rowWalk deeper ask c piece k) (rowsWalk deeper ask c piece (suc k) (n - suc k)) ∙ ap (λ (r : Rows). plusAll w r (rowsWalk deeper ask c piece (suc k) (n - suc k))) (sym e))
+
+  -- a piece that does not end in the text is left as it is
+  pub row-pass : k < n → endsIn (getD affixes k []) piece ≡ false
+      → plusAll w a (rowsWalk deeper ask c piece k (n - k)) ≡ plusAll w a (rowsWalk deeper ask c piece (k + 1) (n - (k + 1)))
+  row-pass h e = row-turn a h (row-none w piece deeper ask c k a (no-plain piece (getD affixes k []) e) (no-shared piece (getD affixes k []) e))
 
   pub row-end : n ≤ k → plusAll w a (rowsWalk deeper ask c piece k (n - k)) ≡ a
   unfolding rowsWalk plusAll

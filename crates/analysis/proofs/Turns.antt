@@ -5,7 +5,8 @@ use native.Mathlib.Numerals.{add-one}
 use mathlib.Core.Path.{_≡_, refl, sym, ap, _∙_}
 use mathlib.Core.Bool.{true, false}
 use mathlib.Core.List.{List, [], _∷_, _++_, append-nil}
-use Rattle.strips.specs.Prefix.{prefixRemainder}
+use Rattle.runs.specs.Runs.{beginsWith}
+use Rattle.strips.specs.Prefix.{leaves, prefixRemainder}
 use Rattle.ranking.specs.Lists.{Rows, plus, plusAll}
 use Rattle.ranking.specs.declared.Reading.{Reading}
 use Rattle.paths.specs.Chains.{formOf}
@@ -19,6 +20,15 @@ unfolding plusAll
 plus-append w a [] ys = refl
 plus-append w a (x ∷ xs) ys = plus-append w (plus w a x) xs ys
 
+plus-none : (w : List ℕ) (a : Rows) → plusAll w a [] ≡ a
+unfolding plusAll
+plus-none w a = refl
+
+-- a piece that does not begin with the form has no remainder
+no-remainder : (piece form : List ℕ) → beginsWith form piece ≡ false → prefixRemainder piece form ≡ []
+unfolding prefixRemainder leaves
+no-remainder piece form e = rw e
+
 module _ (w : List ℕ) (f : ℕ → List ℕ → List Reading) (piece : List ℕ) (k n : ℕ) (a : Rows) where
   pub form-turn : (g : Rows) → k < n → g ≡ plusAll w a (onLeft (f k) (prefixRemainder piece (formOf k)))
       → plusAll w a (overForms f piece k (n - k)) ≡ plusAll w g (overForms f piece (k + 1) (n - (k + 1)))
@@ -26,6 +36,13 @@ module _ (w : List ℕ) (f : ℕ → List ℕ → List Reading) (piece : List �
   form-turn g h e =
       let q : n - k ≡ suc (n - (k + 1)) = omega arith in
       rw (q, add-one) (plus-append w a (onLeft (f k) (prefixRemainder piece (formOf k))) (overForms f piece (suc k) (n - suc k)) ∙ ap (λ (r : Rows). plusAll w r (overForms f piece (suc k) (n - suc k))) (sym e))
+
+  -- a piece that does not begin with the form is left as it is
+  pub form-pass : k < n → beginsWith (formOf k) piece ≡ false → plusAll w a (overForms f piece k (n - k)) ≡ plusAll w a (overForms f piece (k + 1) (n - (k + 1)))
+  form-pass h e = form-turn a h none
+    where
+      none : a ≡ plusAll w a (onLeft (f k) (prefixRemainder piece (formOf k)))
+      none = sym (ap (λ (l : List (List ℕ)). plusAll w a (onLeft (f k) l)) (no-remainder piece (formOf k) e) ∙ plus-none w a)
 
   pub form-end : n ≤ k → plusAll w a (overForms f piece k (n - k)) ≡ a
   unfolding overForms plusAll

@@ -4,6 +4,7 @@ use lookup::starts::Start;
 use paths::Chain;
 use progressive::find::has_supported_progressive_form;
 use ranking::Found;
+use runs::begins_with;
 use strips::prefix::Rest;
 use strips::prefix::prefix_rest;
 use tables::row;
@@ -11,6 +12,7 @@ ghost use mathlib.Core.Path.{_≡_};
 ghost use mathlib.Core.List.{[], _∷_};
 ghost use Prim.Native.Nat.{_-_, _≤_, _<_};
 ghost use lib.ListN.{length, take, drop};
+ghost use Rattle.runs.specs.Runs.{beginsWith};
 ghost use Rattle.tables.specs.Rows.{prefixForms};
 ghost use Rattle.tables.specs.Tables.{Laid, affixes};
 ghost use Rattle.sheet.specs.Replies.{Indexed, reply};
@@ -20,6 +22,16 @@ ghost use Rattle.paths.specs.Walk.{rootWalk, onLeft, overForms, secondWalk, ste
 ghost use Rattle.paths.specs.Chains.{formOf};
 ghost use Rattle.strips.specs.Prefix.{prefixRemainder};
 ghost use Rattle.analysis.specs.Places.{between, Lent};
+
+// Whether the word's part from byte `from` up to byte `stem` begins with the form of row k. Most parts do not, and then what has been
+// collected is left where it is.
+fn begins(word: &[u8], forms: &[u8], form_cuts: &[u16], from: usize, stem: usize, k: u8) -> bool
+    requires { ⌜ Laid prefixForms (now forms) (now «form_cuts») × (from ≤ stem) × (stem ≤ length (now word)) × (k < 30) ⌝ }
+    ensures { λ r. ⌜ r ≡ beginsWith (formOf k) (between (now (word .entry)) from stem) ⌝ }
+{
+    let i = k as usize;
+    begins_with(&word[from..stem], row(forms, form_cuts, i))
+}
 
 // One row for the second prefix: the piece begins at byte `from` of the word, behind the first prefix.
 fn second_row(
@@ -96,23 +108,26 @@ fn second_rows(
     let mut f = found;
     let mut k: u8 = 0;
     while k < 30 {
-        f = second_row(
-            word,
-            sheet,
-            starts,
-            texts,
-            cuts,
-            forms,
-            form_cuts,
-            stem,
-            from,
-            first,
-            k,
-            chain,
-            surface,
-            f,
-        );
+        let second = k;
         k += 1;
+        if begins(word, forms, form_cuts, from, stem, second) {
+            f = second_row(
+                word,
+                sheet,
+                starts,
+                texts,
+                cuts,
+                forms,
+                form_cuts,
+                stem,
+                from,
+                first,
+                second,
+                chain,
+                surface,
+                f,
+            );
+        }
     }
     f
 }
@@ -204,21 +219,24 @@ fn first_rows(
     let mut f = found;
     let mut k: u8 = 0;
     while k < 30 {
-        f = first_row(
-            word,
-            sheet,
-            starts,
-            texts,
-            cuts,
-            forms,
-            form_cuts,
-            stem,
-            k,
-            chain,
-            surface,
-            f,
-        );
+        let first = k;
         k += 1;
+        if begins(word, forms, form_cuts, 0, stem, first) {
+            f = first_row(
+                word,
+                sheet,
+                starts,
+                texts,
+                cuts,
+                forms,
+                form_cuts,
+                stem,
+                first,
+                chain,
+                surface,
+                f,
+            );
+        }
     }
     f
 }

@@ -8,11 +8,14 @@ use progressive::find::has_supported_progressive_form;
 use ranking::AffixKind;
 use ranking::Found;
 use ranking::Segment;
+use runs::ends_with;
 use strips::suffix::suffix_rests;
 use tables::row;
 ghost use mathlib.Core.Path.{_≡_};
 ghost use Prim.Native.Nat.{_-_, _≤_, _<_};
-ghost use lib.ListN.{length, take};
+ghost use mathlib.Core.List.{[]};
+ghost use lib.ListN.{length, take, getD};
+ghost use Rattle.runs.specs.Runs.{endsIn};
 ghost use Rattle.tables.specs.Tables.{Laid, affixes};
 ghost use Rattle.sheet.specs.Replies.{Indexed, reply};
 ghost use Rattle.ranking.specs.Lists.{foundOf, plusAll};
@@ -72,6 +75,15 @@ fn pushed(c: Chain, s: Segment) -> Chain
     }
 }
 
+// Whether the word's first `end` bytes end in the text of row k. Most do not, and then what has been collected is left where it is.
+fn ends(word: &[u8], texts: &[u8], cuts: &[u16], end: usize, k: u8) -> bool
+    requires { ⌜ Laid affixes (now texts) (now cuts) × (end ≤ length (now word)) × (k < 25) ⌝ }
+    ensures { λ r. ⌜ r ≡ endsIn (getD affixes k []) (take end (now (word .entry))) ⌝ }
+{
+    let i = k as usize;
+    ends_with(&word[..end], row(texts, cuts, i))
+}
+
 // The readings of the piece that is the word's first `end` bytes, with the suffixes stripped so far: those that take it for the
 // stem, then those that strip one of the first `rows` rows and go on.
 pub(crate) fn visit(
@@ -116,21 +128,24 @@ pub(crate) fn visit(
     }
     let mut k: u8 = 0;
     while k < rows {
-        f = below(
-            word,
-            sheet,
-            starts,
-            texts,
-            cuts,
-            forms,
-            form_cuts,
-            end,
-            chain,
-            k,
-            surface,
-            f,
-        );
+        let label = k;
         k += 1;
+        if ends(word, texts, cuts, end, label) {
+            f = below(
+                word,
+                sheet,
+                starts,
+                texts,
+                cuts,
+                forms,
+                form_cuts,
+                end,
+                chain,
+                label,
+                surface,
+                f,
+            );
+        }
     }
     f
 }

@@ -1,5 +1,7 @@
 // Which roots are supported, and how a reading scores.
-use lookup::answers::letters_of;
+use lookup::answers::letters_in;
+use lookup::begins::Range;
+use lookup::begins::range_of;
 use lookup::starts::Start;
 use tables::row;
 ghost use mathlib.Core.Path.{_≡_};
@@ -7,6 +9,7 @@ ghost use mathlib.Core.List.{_++_};
 ghost use Prim.Native.Nat.{_≤_};
 ghost use Rattle.tables.specs.Tables.{Laid, affixes};
 ghost use Rattle.sheet.specs.Replies.{Indexed, reply};
+ghost use Rattle.lookup.specs.Begins.{Begun};
 ghost use Rattle.progressive.specs.Progressive.{isProgressive};
 ghost use Rattle.paths.specs.Support.{isKnown, hasSibling, points};
 ghost use Rattle.analysis.specs.Supports.{supportOf, scoreFrom, supports};
@@ -19,33 +22,34 @@ pub struct Support {
     pub progressive: bool,
 }
 
-// Whether the sheet knows the name that p and then q make, by w or by h.
-pub(crate) fn is_known(sheet: &[u8], starts: &[Start], p: &[u8], q: &[u8]) -> bool
-    requires { ⌜ Indexed (now sheet) (now starts) ⌝ }
+// Whether the sheet knows the name that p and then q make, by w or by h. The lines whose names begin with p are known.
+pub(crate) fn is_known(sheet: &[u8], starts: &[Start], range: Range, p: &[u8], q: &[u8]) -> bool
+    requires { ⌜ Indexed (now sheet) (now starts) × Begun (now sheet) (now starts) 0x77 (now p) range ⌝ }
     ensures { λ r. ⌜ r ≡ isKnown (reply (now (sheet .entry))) (now (p .entry) ++ now (q .entry)) ⌝ }
 {
-    let letters = letters_of(sheet, starts, p, q);
+    let letters = letters_in(sheet, starts, range, p, q);
     if letters.word {
         return true;
     }
     letters.head
 }
 
-// Whether the sheet knows the piece with one of the 25 texts appended.
+// Whether the sheet knows the piece with one of the 25 texts appended. The lines whose names begin with the piece are known.
 pub(crate) fn has_sibling(
     sheet: &[u8],
     starts: &[Start],
+    range: Range,
     texts: &[u8],
     cuts: &[u16],
     piece: &[u8],
 ) -> bool
-    requires { ⌜ Indexed (now sheet) (now starts) × Laid affixes (now texts) (now cuts) ⌝ }
+    requires { ⌜ Indexed (now sheet) (now starts) × Begun (now sheet) (now starts) 0x77 (now piece) range × Laid affixes (now texts) (now cuts) ⌝ }
     ensures { λ r. ⌜ r ≡ hasSibling (reply (now (sheet .entry))) (now (piece .entry)) ⌝ }
 {
     let mut k: usize = 0;
     while k < 25 {
         let text = row(texts, cuts, k);
-        if is_known(sheet, starts, piece, text) {
+        if is_known(sheet, starts, range, piece, text) {
             return true;
         }
         k += 1;
@@ -94,7 +98,8 @@ pub(crate) fn is_supported(s: Support, len: usize) -> bool
     s.progressive
 }
 
-// What the sheet says of a root; whether it is a supported progressive form is known already.
+// What the sheet says of a root; whether it is a supported progressive form is known already. Where no name begins with the root,
+// one search settles all 26 questions.
 pub(crate) fn support_of(
     sheet: &[u8],
     starts: &[Start],
@@ -106,8 +111,17 @@ pub(crate) fn support_of(
     requires { ⌜ Indexed (now sheet) (now starts) × Laid affixes (now texts) (now cuts) × (progressive ≡ isProgressive (reply (now sheet)) (now root)) ⌝ }
     ensures { λ r. ⌜ r ≡ supportOf (reply (now (sheet .entry))) (now (root .entry)) ⌝ }
 {
-    let letters = letters_of(sheet, starts, root, b"");
-    let sibling = has_sibling(sheet, starts, texts, cuts, root);
+    let range = range_of(sheet, starts, b'w', root);
+    if range.hi <= range.lo {
+        return Support {
+            word: false,
+            head: false,
+            sibling: false,
+            progressive,
+        };
+    }
+    let letters = letters_in(sheet, starts, range, root, b"");
+    let sibling = has_sibling(sheet, starts, range, texts, cuts, root);
     Support {
         word: letters.word,
         head: letters.head,

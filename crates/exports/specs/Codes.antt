@@ -7,32 +7,32 @@ use lib.Ieee.{Float}
 use Rattle.runs.specs.Runs.{pick}
 use Rattle.tables.specs.declared.origins.Origin.{Origin}
 use Rattle.tables.specs.declared.origins.Origin.the-variants.{Tatsam, Tadbhav, Deshaj, Aagantuk}
-use Rattle.sheet.specs.Lines.{sheetNumber}
+use Rattle.sheet.specs.Inputs.{numbersOf, sheetNumbers}
 use Rattle.sheet.specs.declared.check.SheetCheck.{SheetCheck}
-use Rattle.sheet.specs.declared.check.SheetCheck.the-variants.{Accepted, TooLong, NoForm, NotAbove}
-use Rattle.progressive.specs.Answers.{answerNumber}
+use Rattle.sheet.specs.declared.inputs.Refusal.{Refusal}
 use Rattle.progressive.specs.declared.find.Progressive.{Progressive}
 use Rattle.progressive.specs.declared.entry.Answer.{Answer}
 use Rattle.progressive.specs.declared.entry.Answer.the-variants as answers
+use Rattle.progressive.specs.declared.entry.Supported.{Supported}
+use Rattle.progressive.specs.declared.entry.Supported.the-variants as supports
 use Rattle.origin.specs.Decisions.{none}
-use Rattle.origin.specs.Answers.{numbersOf}
 use Rattle.origin.specs.declared.OriginSource.{OriginSource}
 use Rattle.origin.specs.declared.OriginSource.the-variants.{Override, Kosha, Heuristic, Unknown}
 use Rattle.origin.specs.declared.OriginDecision.{OriginDecision}
-use Rattle.origin.specs.declared.entries.Refusal.{Refusal}
-use Rattle.origin.specs.declared.entries.Refusal.the-variants as refusals
 use Rattle.origin.specs.declared.entries.DecisionAnswer.{DecisionAnswer}
 use Rattle.origin.specs.declared.entries.DecisionAnswer.the-variants as decisions
 
--- the first byte of the faulty line
-abbrev pub faultAt : SheetCheck → ℕ
-faultAt Accepted = 0
-faultAt TooLong = 0
-faultAt (NoForm at) = at
-faultAt (NotAbove at) = at
+-- a number alone, or with the first byte of the faulty line; 0 for none
+abbrev pub coded : List ℕ → ℕ
+coded [] = 0
+coded (n ∷ []) = n
+coded (n ∷ at ∷ more) = n + 16 * at
 
 abbrev pub sheetCode : SheetCheck → ℕ
-sheetCode c = sheetNumber c + 16 * faultAt c
+sheetCode c = coded (sheetNumbers c)
+
+abbrev pub refusalCode : Refusal → ℕ
+refusalCode r = coded (numbersOf r)
 
 abbrev pub bit : Bool → ℕ
 bit true = 1
@@ -47,22 +47,13 @@ abbrev pub formCode : Progressive → ℕ
 formCode f = pick (f .found) (15 + 16 * bit (f .negative) + placesCode f) 0
 
 abbrev pub progressiveCode : Answer → ℕ
-progressiveCode answers.WordTooLong = answerNumber answers.WordTooLong
-progressiveCode answers.WordNotUtf8 = answerNumber answers.WordNotUtf8
-progressiveCode answers.WordForbidden = answerNumber answers.WordForbidden
-progressiveCode answers.SheetTooLong = answerNumber answers.SheetTooLong
-progressiveCode (answers.SheetNoForm at) = answerNumber (answers.SheetNoForm at) + 16 * at
-progressiveCode (answers.SheetNotAbove at) = answerNumber (answers.SheetNotAbove at) + 16 * at
+progressiveCode (answers.Refused r) = refusalCode r
 progressiveCode (answers.Given form) = formCode form
 
--- a number alone, or with the first byte of the faulty line
-abbrev pub coded : List ℕ → ℕ
-coded [] = 0
-coded (n ∷ []) = n
-coded (n ∷ at ∷ more) = n + 16 * at
-
-abbrev pub refusalCode : Refusal → ℕ
-refusalCode r = coded (numbersOf r)
+-- 15 for yes, which is no refusal's number, and 0 for no
+abbrev pub supportedCode : Supported → ℕ
+supportedCode (supports.Refused r) = refusalCode r
+supportedCode (supports.Given b) = pick b 15 0
 
 abbrev pub originNumber : Origin → ℕ
 originNumber Tatsam = 0

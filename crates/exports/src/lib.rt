@@ -2,13 +2,15 @@
 use origin::OriginDecision;
 use origin::OriginSource;
 use origin::entries::DecisionAnswer;
-use origin::entries::Refusal;
 use origin::entries::classify_with_provenance;
 use progressive::entry::Answer;
+use progressive::entry::Supported;
 use progressive::entry::analyze_progressive;
+use progressive::entry::has_supported_progressive_form;
 use progressive::find::Progressive;
 use sheet::check::SheetCheck;
 use sheet::check::check_sheet;
+use sheet::inputs::Refusal;
 use tables::origins::Origin;
 use text::word::WordCheck;
 use text::word::check_word;
@@ -16,9 +18,10 @@ ghost use mathlib.Core.Path.{_≡_};
 ghost use Prim.Native.Nat.{_+_, _*_, _≤_};
 ghost use Rattle.text.specs.Word.{wordCheck, wordNumber, wordLimit};
 ghost use Rattle.sheet.specs.Lines.{sheetCheck, sheetLimit};
-ghost use Rattle.progressive.specs.Answers.{answerOf};
+ghost use Rattle.sheet.specs.Inputs.{Placed};
+ghost use Rattle.progressive.specs.Answers.{answerOf, supportedOf};
 ghost use Rattle.origin.specs.Answers.{decisionAnswer};
-ghost use Rattle.exports.specs.Codes.{sheetCode, formCode, progressiveCode, originNumber, sourceNumber, originCode, confidenceOf};
+ghost use Rattle.exports.specs.Codes.{sheetCode, refusalCode, formCode, progressiveCode, supportedCode, originNumber, sourceNumber, originCode, confidenceOf};
 
 // 0 for a word that is accepted, else document 01's number: 1, 2 or 3.
 #[no_mangle]
@@ -48,6 +51,21 @@ pub extern "C" fn yunthirel_check_sheet(sheet: &[u8]) -> u64
     }
 }
 
+// A refusal as a number: document 01's, 1 to 6, with 16 times the first byte of the faulty line for 5 and 6.
+fn refusal_code(refusal: Refusal) -> u64
+    requires { ⌜ Placed refusal ⌝ }
+    ensures { λ r. ⌜ r ≡ refusalCode refusal ⌝ }
+{
+    match refusal {
+        Refusal::WordTooLong => 1,
+        Refusal::WordNotUtf8 => 2,
+        Refusal::WordForbidden => 3,
+        Refusal::SheetTooLong => 4,
+        Refusal::SheetNoForm(at) => 5 + 16 * (at as u64),
+        Refusal::SheetNotAbove(at) => 6 + 16 * (at as u64),
+    }
+}
+
 // A form as a number: 0 for none; else 15 in the lowest four bits, which is no refusal's number, then one bit that says negative, 8 bits
 // for the end of the main form, 8 for the length of the lemma's name and the rest for its place in the sheet.
 fn form_code(form: Progressive) -> u64
@@ -66,21 +84,33 @@ fn form_code(form: Progressive) -> u64
     15 + places
 }
 
-// The progressive form of the word, as `form_code` gives it; else document 01's number of the refusal, 1 to 6, with 16 times the first
-// byte of the faulty line for 5 and 6. The auxiliary is the rest of the word after the main form.
+// The progressive form of the word, as `form_code` gives it; else the refusal, as `refusal_code` does. The auxiliary is the rest of the
+// word after the main form.
 #[no_mangle]
 pub extern "C" fn yunthirel_progressive(word: &[u8], sheet: &[u8]) -> u64
     ensures { λ r. ⌜ r ≡ progressiveCode (answerOf (now (word .entry)) (now (sheet .entry))) ⌝ }
 {
     let answer = analyze_progressive(word, sheet);
     match answer {
-        Answer::WordTooLong => 1,
-        Answer::WordNotUtf8 => 2,
-        Answer::WordForbidden => 3,
-        Answer::SheetTooLong => 4,
-        Answer::SheetNoForm(at) => 5 + 16 * (at as u64),
-        Answer::SheetNotAbove(at) => 6 + 16 * (at as u64),
+        Answer::Refused(refusal) => refusal_code(refusal),
         Answer::Given(form) => form_code(form),
+    }
+}
+
+// 15 where the word is a supported progressive form, 0 where it is none; else the refusal, as `refusal_code` gives it.
+#[no_mangle]
+pub extern "C" fn yunthirel_has_progressive(word: &[u8], sheet: &[u8]) -> u64
+    ensures { λ r. ⌜ r ≡ supportedCode (supportedOf (now (word .entry)) (now (sheet .entry))) ⌝ }
+{
+    let answer = has_supported_progressive_form(word, sheet);
+    match answer {
+        Supported::Refused(refusal) => refusal_code(refusal),
+        Supported::Given(supported) => {
+            if supported {
+                return 15;
+            }
+            0
+        }
     }
 }
 
@@ -115,7 +145,7 @@ fn decision_code(decision: OriginDecision) -> u64
     16 * origin_number(origin) + 64 * source_number(source)
 }
 
-// Where the word comes from, in bits 4 and 5, and how that is known, in bits 6 and 7; else the refusal as above.
+// Where the word comes from, in bits 4 and 5, and how that is known, in bits 6 and 7; else the refusal, as `refusal_code` gives it.
 #[no_mangle]
 pub extern "C" fn yunthirel_origin(word: &[u8], sheet: &[u8]) -> u64
     ensures { λ r. ⌜ r ≡ originCode (decisionAnswer (now (word .entry)) (now (sheet .entry))) ⌝ }
@@ -123,14 +153,7 @@ pub extern "C" fn yunthirel_origin(word: &[u8], sheet: &[u8]) -> u64
     let answer = classify_with_provenance(word, sheet);
     match answer {
         DecisionAnswer::Decided(decision) => decision_code(decision),
-        DecisionAnswer::Refused(refusal) => match refusal {
-            Refusal::WordTooLong => 1,
-            Refusal::WordNotUtf8 => 2,
-            Refusal::WordForbidden => 3,
-            Refusal::SheetTooLong => 4,
-            Refusal::SheetNoForm(at) => 5 + 16 * (at as u64),
-            Refusal::SheetNotAbove(at) => 6 + 16 * (at as u64),
-        },
+        DecisionAnswer::Refused(refusal) => refusal_code(refusal),
     }
 }
 

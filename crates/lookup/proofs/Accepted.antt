@@ -87,6 +87,13 @@ module _ (s : List ℕ) where
   up-above last (at ∷ places) zero g h = g .1
   up-above last (at ∷ places) (suc i) g h = cmp-trans last _ _ (g .1) (up-above _ places i (g .2) (omega arith))
 
+  pub up-pair : (last places : List ℕ) (i j : ℕ) → GoesUp s last places → i < j → j < length places →
+      cmp (key (lineAt s (getD places i 0))) (key (lineAt s (getD places j 0))) ≡ Less
+  up-pair last [] i j g h l = absurd (omega arith)
+  up-pair last (at ∷ places) i zero g h l = absurd (omega arith)
+  up-pair last (at ∷ places) zero (suc j) g h l = up-above _ places j (g .2) (omega arith)
+  up-pair last (at ∷ places) (suc i) (suc j) g h l = up-pair _ places i j (g .2) (omega arith) (omega arith)
+
   pub up-member : (last places : List ℕ) (at : ℕ) → GoesUp s last places → List·Memᴰ at places → isForm (drop at s) ≡ true
   up-member last [] at g m = absurd (List·Memᴰ·not-nil m)
   up-member last (a ∷ places) at g m =

@@ -1,5 +1,5 @@
 -- Where the name and the value of a found line stand in the sheet. The proofs of `answers` cite it. Assumes nothing.
-use mathlib.Core.Path.{_≡_, sym, ap, _∙_}
+use mathlib.Core.Path.{_≡_, refl, sym, ap, _∙_}
 use mathlib.Core.Bool.{Bool, true, false}
 use mathlib.Core.List.{List, [], _++_, append-nil}
 use Prim.Native.Nat.{ℕ, _+_, _-_, _≤_}
@@ -10,18 +10,16 @@ use Rattle.runs.specs.Runs.{pick, sameText}
 use Rattle.sheet.specs.Forms.{key, keyOf}
 use Rattle.sheet.specs.Lines.{lineAt}
 use Rattle.sheet.specs.Replies.{Reply, reply}
+use Rattle.lookup.specs.declared.search.Found.{Found}
 use Rattle.lookup.specs.declared.search.Found.the-variants.{At, Nothing}
 use Rattle.lookup.specs.declared.answers.Spot.{Spot}
 use Rattle.lookup.specs.Starts.{upto}
-use Rattle.lookup.specs.Search.{Sought}
-use Rattle.lookup.specs.Answers.{noSpot, valueSpot, nameSpot, ValueOf, named, NameOf, post, kindTold, kindFor}
+use Rattle.lookup.specs.Search.{answerAt, Sought}
+use Rattle.lookup.specs.Answers.{textAt, noSpot, valueSpot, LineOf, nameSpot, ValueOf, named, NameOf, post, kindTold, kindFor}
 use Rattle.lookup.specs.declared.answers.SheetKind.the-variants.{Post, Comp}
 use Rattle.lookup.proofs.Forms.{line-room, value-closed, value-taken, name-taken}
 
 module _ (s : List ℕ) (letter : ℕ) (name : List ℕ) where
-  pub no-value : Sought s letter name Nothing → ValueOf s letter name noSpot
-  no-value k = record { settled = ap (valueSpot s (length name)) (k .settled); reads = k .answers; inside = omega arith }
-
   pub no-name : Sought s letter name Nothing → NameOf s letter name noSpot
   no-name k = record { settled = ap (nameSpot (length name)) (k .settled); reads = ap (named name) (k .answers); inside = omega arith }
 
@@ -37,30 +35,6 @@ module _ (s : List ℕ) (letter : ℕ) (name : List ℕ) (at : ℕ) (k : Sought 
       let e : length (lineAt s at .name) ≡ length name = ap length found-name in
       omega (arith, line-room s at (k .placed .form))
 
-  from-line : (from : ℕ) → from ≡ at + 5 + length name → drop (5 + length (lineAt s at .name)) (drop at s) ≡ drop from s
-  from-line from p =
-      let e : length (lineAt s at .name) ≡ length name = ap length found-name in
-      let q : at + (5 + length (lineAt s at .name)) ≡ from = omega arith in
-      drop-drop _ at s ∙ ap (λ (n : ℕ). drop n s) q
-
-  pub some-value : (from end : ℕ) → from ≡ at + 5 + length name → end ≡ from + upto 0x29 (drop from s) →
-      ValueOf s letter name (record { found = true; at = from; len = end - from })
-  some-value from end p e =
-      let t = drop at s in
-      let f = k .placed .form in
-      let d = from-line from p in
-      let l : upto 0x29 (drop from s) ≡ length (lineAt s at .value) = ap (λ (x : List ℕ). upto 0x29 x) (sym d) ∙ value-closed t f in
-      let n : end - from ≡ length (lineAt s at .value) = omega arith in
-      let r : take (end - from) (drop from s) ≡ lineAt s at .value =
-      ap (λ (x : ℕ). take x (drop from s)) n ∙ ap (λ (x : List ℕ). take (length (lineAt s at .value)) x) (sym d) ∙ value-taken t f in
-      record {
-        settled =
-            ap (λ (x : ℕ). spot from x) n ∙ ap (λ (x : ℕ). spot x (length (lineAt s at .value))) p
-            ∙ ap (valueSpot s (length name)) (k .settled);
-        reads = ap Reply.told r ∙ k .answers;
-        inside = omega (arith, found-room);
-      }
-
   pub some-name : (len : ℕ) → len ≡ length name → NameOf s letter name (record { found = true; at = at + 3; len = len })
   some-name len p =
       let n : len ≡ length (lineAt s at .name) = p ∙ ap length (sym found-name) in
@@ -72,6 +46,46 @@ module _ (s : List ℕ) (letter : ℕ) (name : List ℕ) (at : ℕ) (k : Sought 
         settled = ap (λ (x : ℕ). spot (at + 3) x) p ∙ ap (nameSpot (length name)) (k .settled);
         reads = ap Reply.told r ∙ ap (named name) (k .answers);
         inside = omega (arith, found-room);
+      }
+
+-- where the value stands in a line of which its form is known
+module _ (s : List ℕ) (n at : ℕ) (k : LineOf s n (At at)) where
+  pub value-room : at + (n + length (lineAt s at .value) + 8) ≤ length s
+  value-room = omega (arith, line-room s at (k .0), k .1)
+
+  pub value-spot : (from end : ℕ) → from ≡ at + 5 + n → end ≡ from + upto 0x29 (drop from s) →
+      record { found = true; at = from; len = end - from } ≡ valueSpot s n (At at)
+  value-spot from end p e =
+      let t = drop at s in
+      let q : at + (5 + length (lineAt s at .name)) ≡ from = omega (arith, k .1) in
+      let d : drop (5 + length (lineAt s at .name)) t ≡ drop from s = drop-drop _ at s ∙ ap (λ (m : ℕ). drop m s) q in
+      let l : upto 0x29 (drop from s) ≡ length (lineAt s at .value) = ap (λ (x : List ℕ). upto 0x29 x) (sym d) ∙ value-closed t (k .0) in
+      let m : end - from ≡ length (lineAt s at .value) = omega arith in
+      ap (λ (x : ℕ). spot from x) m ∙ ap (λ (x : ℕ). spot x (length (lineAt s at .value))) p
+
+-- the line that a search has found is one whose form and name are known, and its value is what the sheet replies
+module _ (s : List ℕ) (letter : ℕ) (name : List ℕ) where
+  pub line-of : (n : ℕ) (line : Found) → n ≡ length name → Sought s letter name line → LineOf s n line
+  line-of n Nothing e k = tt
+  line-of n (At at) e k = (k .placed .form, ap length (found-name s letter name at k) ∙ sym e)
+
+  reads-value : (line : Found) → Sought s letter name line → textAt s (valueSpot s (length name) line) ≡ answerAt s line
+  reads-value Nothing k = refl
+  reads-value (At at) k =
+      let t = drop at s in
+      let e : length (lineAt s at .name) ≡ length name = ap length (found-name s letter name at k) in
+      let q : at + (5 + length (lineAt s at .name)) ≡ at + 5 + length name = omega arith in
+      let d : drop (5 + length (lineAt s at .name)) t ≡ drop (at + 5 + length name) s = drop-drop _ at s ∙ ap (λ (m : ℕ). drop m s) q in
+      ap (λ (x : List ℕ). Reply.told (take (length (lineAt s at .value)) x)) (sym d) ∙ ap Reply.told (value-taken t (k .placed .form))
+
+  pub value-of : (n : ℕ) (line : Found) (r : Spot) → n ≡ length name → Sought s letter name line →
+      r ≡ valueSpot s n line → r .at + r .len ≤ length s → ValueOf s letter name r
+  value-of n line r e k v i =
+      let w : r ≡ valueSpot s (length name) line = v ∙ ap (λ (m : ℕ). valueSpot s m line) e in
+      record {
+        settled = w ∙ ap (valueSpot s (length name)) (k .settled);
+        reads = ap (textAt s) w ∙ reads-value line k ∙ k .answers;
+        inside = i;
       }
 
 -- a name and nothing behind it is the name

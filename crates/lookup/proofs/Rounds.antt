@@ -19,7 +19,7 @@ use Rattle.lookup.proofs.Accepted.{GoesUp, up-drop, up-take}
 use Rattle.lookup.proofs.Halves.{place-up, place-down, place-here}
 
 -- the first h of the elements from number lo on that come before number hi
-take-between : (lo h hi m : ℕ) (xs : List ℕ) → m ≡ lo + h → m ≤ hi → take h (drop lo (take hi xs)) ≡ drop lo (take m xs)
+pub take-between : (lo h hi m : ℕ) (xs : List ℕ) → m ≡ lo + h → m ≤ hi → take h (drop lo (take hi xs)) ≡ drop lo (take m xs)
 take-between zero h hi m xs e l = let p : m ≡ h = omega arith in rw p (take-take h hi xs (omega arith))
 take-between (suc lo) h zero m xs e l = absurd (omega arith)
 take-between (suc lo) h (suc hi) zero xs e l = absurd (omega arith)
@@ -32,7 +32,7 @@ double zero = 1
 double (suc k) = double k + double k
 
 module _ (s q : List ℕ) where
-  empty-place : (places : List ℕ) → length places ≡ 0 → placeIn s places q ≡ Nothing
+  pub empty-place : (places : List ℕ) → length places ≡ 0 → placeIn s places q ≡ Nothing
   empty-place [] h = refl
   empty-place (at ∷ places) h = absurd (omega arith)
 

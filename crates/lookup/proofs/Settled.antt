@@ -1,6 +1,6 @@
 -- What the answer of 13 rounds says of an indexed sheet: the place, the reply, the line that stands there.
 -- The proof of `seek` cites it. Assumes nothing.
-use mathlib.Core.Path.{_≡_, sym, ap, _∙_}
+use mathlib.Core.Path.{_≡_, sym, ap, subst, _∙_}
 use mathlib.Core.Bool.{true}
 use mathlib.Core.List.{List, []}
 use Prim.Native.Nat.{ℕ, _<_}
@@ -11,7 +11,7 @@ use Rattle.sheet.specs.Lines.{startsOf}
 use Rattle.sheet.specs.Replies.{reply, Indexed}
 use Rattle.lookup.specs.declared.search.Found.{Found}
 use Rattle.lookup.specs.declared.search.Found.the-variants.{At, Nothing}
-use Rattle.lookup.specs.Search.{asked, enoughRounds, placeOf, answerAt, Placed, Sought}
+use Rattle.lookup.specs.Search.{asked, enoughRounds, placeIn, placeOf, answerAt, Placed, Sought}
 use Rattle.lookup.proofs.Accepted.{accepted-up, up-form, up-member}
 use Rattle.lookup.proofs.Halves.{place-replies, place-asks}
 use Rattle.lookup.proofs.Rounds.{enough, double}
@@ -43,3 +43,13 @@ sought s starts letter name r x e =
       answers = ap (answerAt s) p ∙ place-replies s (keyOf letter name) (startsOf s);
       placed = placed s letter name starts r x p;
     }
+
+-- the same of the line that all lines give
+pub sought-placed : (s starts : List ℕ) (letter : ℕ) (name : List ℕ) (r : Found) → Indexed s starts →
+    r ≡ placeIn s starts (keyOf letter name) → Sought s letter name r
+sought-placed s starts letter name r x e =
+    let f : length (startsOf s) < double enoughRounds = omega (arith, few-lines s (x .accepted)) in
+    let l : placeIn s starts (keyOf letter name) ≡ asked enoughRounds s starts (keyOf letter name) =
+    subst (λ (p : List ℕ). placeIn s p (keyOf letter name) ≡ asked enoughRounds s p (keyOf letter name)) (sym (x .listed))
+    (sym (enough s (keyOf letter name) enoughRounds [] (startsOf s) (accepted-up s (x .accepted)) f)) in
+    sought s starts letter name r x (e ∙ l)

@@ -5,6 +5,7 @@ use mathlib.Core.Bool.{true, false}
 use mathlib.Core.List.{List, [], _∷_}
 use lib.ListN.{length, take, drop}
 use Rattle.runs.specs.Runs.{pick, sameText}
+use Rattle.sheet.specs.Forms.{isForm}
 use Rattle.sheet.specs.Lines.{lineAt}
 use Rattle.sheet.specs.Replies.{Reply, unknown, told, reply}
 use Rattle.lookup.specs.declared.answers.Spot.{Spot}
@@ -25,6 +26,11 @@ noSpot = record { found = false; at = 0; len = 0 }
 abbrev pub valueSpot : List ℕ → ℕ → Found → Spot
 valueSpot s n Nothing = noSpot
 valueSpot s n (At at) = record { found = true; at = at + 5 + n; len = length (lineAt s at .value) }
+
+-- a form stands where a line was found, and its name has n bytes
+abbrev pub LineOf : List ℕ → ℕ → Found → Type 0
+LineOf s n Nothing = Unit {0}
+LineOf s n (At at) = (isForm (drop at s) ≡ true) × (length (lineAt s at .name) ≡ n)
 
 -- where the name stands in the line found
 abbrev pub nameSpot : ℕ → Found → Spot

@@ -1,23 +1,41 @@
--- Names of a first letter that begin alike: whether a sheet has a line for one of them. Assumes nothing.
-use Prim.Native.Nat.{ℕ}
+-- Names of a first letter that begin alike: their lines stand together in a sheet, from one line's number up to another's.
+-- Assumes nothing.
+use Prim.Native.Nat.{ℕ, _-_, _≤_, _<_}
 use mathlib.Core.Path.{_≡_}
-use mathlib.Core.Bool.{Bool, true, false}
-use mathlib.Core.List.{List, [], _∷_, _++_}
-use Rattle.runs.specs.Runs.{pick, beginsWith}
-use Rattle.sheet.specs.Forms.{Entry, key, keyOf}
-use Rattle.sheet.specs.Lines.{linesOf}
-use Rattle.sheet.specs.Replies.{Reply, unknown, told, reply}
+use mathlib.Core.List.{List}
+use lib.ListN.{length, getD}
+use Rattle.runs.specs.declared.Order.{Order}
+use Rattle.runs.specs.declared.Order.the-variants.{Less, Equal, Greater}
+use Rattle.sheet.specs.Forms.{key, keyOf}
+use Rattle.sheet.specs.Lines.{lineAt}
+use Rattle.lookup.specs.Search.{headed}
+use Rattle.lookup.specs.declared.begins.Range.{Range}
+use Rattle.lookup.specs.declared.begins.Edge.{Edge}
 
--- some entry's key begins with k
-abbrev pub someIn : List Entry → List ℕ → Bool
-someIn [] k = false
-someIn (e ∷ es) k = pick (beginsWith k (key e)) true (someIn es k)
+-- how line number i stands to all lines of the letter whose names begin with head: equal if it is one of them
+abbrev pub headedAt : List ℕ → List ℕ → ℕ → List ℕ → ℕ → Order
+headedAt s starts letter head i = headed (key (lineAt s (getD starts i 0))) (keyOf letter head)
 
--- some line of the letter has a name that begins with head
-unfoldable pub someBegins : List ℕ → ℕ → List ℕ → Bool
-someBegins s letter head = someIn (linesOf s) (keyOf letter head)
+-- the lines whose names begin with head are just those from number lo on and before number hi: the line before them stands below all
+-- such lines, and the line behind them above. So lo and hi are settled
+pub record Begun (s starts : List ℕ) (letter : ℕ) (head : List ℕ) (r : Range) : Type 0 where
+  pub ordered : r .lo ≤ r .hi
+  pub inside : r .hi ≤ length starts
+  pub below : 0 < r .lo → headedAt s starts letter head (r .lo - 1) ≡ Less
+  pub each : (i : ℕ) → r .lo ≤ i → i < r .hi → headedAt s starts letter head i ≡ Equal
+  pub above : r .hi < length starts → headedAt s starts letter head (r .hi) ≡ Greater
 
--- what the answer r says: it is settled, and where it is false, no question that begins so has a line
-pub record BeginsIn (s : List ℕ) (letter : ℕ) (head : List ℕ) (r : Bool) : Type 0 where
-  pub settled : r ≡ someBegins s letter head
-  pub none : r ≡ false → (q : List ℕ) → reply s letter (head ++ q) ≡ unknown
+-- lo is the number of the first line that does not stand below all such lines; line number top, if there is one, stands above them
+pub record Edged (s starts : List ℕ) (letter : ℕ) (head : List ℕ) (r : Edge) : Type 0 where
+  pub ordered : r .lo ≤ r .top
+  pub inside : r .top ≤ length starts
+  pub below : 0 < r .lo → headedAt s starts letter head (r .lo - 1) ≡ Less
+  pub first : r .lo < length starts → headedAt s starts letter head (r .lo) ≡ Less → ⊥
+  pub above : r .top < length starts → headedAt s starts letter head (r .top) ≡ Greater
+
+-- hi is the number of the first line behind them, between lo and top
+pub record Ended (s starts : List ℕ) (letter : ℕ) (head : List ℕ) (lo top hi : ℕ) : Type 0 where
+  pub from : lo ≤ hi
+  pub upto : hi ≤ top
+  pub last : lo < hi → headedAt s starts letter head (hi - 1) ≡ Greater → ⊥
+  pub above : hi < top → headedAt s starts letter head hi ≡ Greater

@@ -2,8 +2,13 @@
 // kind of a suffix, and the place of a name. `starts` is what `fill_starts` stores of the sheet.
 ghost use mathlib.Core.Path.{_≡_};
 ghost use mathlib.Core.List.{_++_};
-ghost use Rattle.sheet.specs.Replies.{Indexed, lettersFor};
-ghost use Rattle.lookup.specs.Answers.{ValueOf, NameOf, kindFor};
+ghost use Prim.Native.Nat.{_+_, _≤_};
+ghost use lib.ListN.{length};
+ghost use Rattle.sheet.specs.Replies.{Indexed, lettersTold, lettersFor};
+ghost use Rattle.lookup.specs.Begins.{Begun};
+ghost use Rattle.lookup.specs.Answers.{LineOf, valueSpot, textAt, ValueOf, NameOf, kindFor};
+use crate::begins::Range;
+use crate::begins::seek_in;
 use crate::search::Found;
 use crate::search::seek;
 use crate::starts::Start;
@@ -27,13 +32,11 @@ pub enum SheetKind {
     Comp,
 }
 
-// Where the value of the line for `letter` and the name that `p` and then `q` make stands in the sheet.
-// The sheet is accepted and `starts` is its list.
-pub(crate) fn value_of(sheet: &[u8], starts: &[Start], letter: u8, p: &[u8], q: &[u8]) -> Spot
-    requires { ⌜ Indexed (now sheet) (now starts) ⌝ }
-    ensures { λ r. ⌜ ValueOf (now (sheet .entry)) letter (now (p .entry) ++ now (q .entry)) r ⌝ }
+// Where the value stands in the line that a search has found, whose name has `n` bytes.
+fn value_at(sheet: &[u8], line: Found, n: usize) -> Spot
+    requires { ⌜ LineOf (now sheet) n line ⌝ }
+    ensures { λ r. ⌜ (r ≡ valueSpot (now (sheet .entry)) n line) × (r .at + r .len ≤ length (now (sheet .entry))) ⌝ }
 {
-    let line = seek(sheet, starts, letter, p, q);
     let Found::At(at) = line else {
         return Spot {
             found: false,
@@ -41,13 +44,23 @@ pub(crate) fn value_of(sheet: &[u8], starts: &[Start], letter: u8, p: &[u8], q: 
             len: 0,
         };
     };
-    let from = at + 5 + p.len() + q.len();
+    let from = at + 5 + n;
     let end = until(sheet, from, b')');
     Spot {
         found: true,
         at: from,
         len: end - from,
     }
+}
+
+// Where the value of the line for `letter` and the name that `p` and then `q` make stands in the sheet.
+// The sheet is accepted and `starts` is its list.
+pub(crate) fn value_of(sheet: &[u8], starts: &[Start], letter: u8, p: &[u8], q: &[u8]) -> Spot
+    requires { ⌜ Indexed (now sheet) (now starts) ⌝ }
+    ensures { λ r. ⌜ ValueOf (now (sheet .entry)) letter (now (p .entry) ++ now (q .entry)) r ⌝ }
+{
+    let line = seek(sheet, starts, letter, p, q);
+    value_at(sheet, line, p.len() + q.len())
 }
 
 // Where the name that `p` and then `q` make stands in its own `w` line.
@@ -99,13 +112,11 @@ pub fn kind_of(sheet: &[u8], starts: &[Start], name: &[u8]) -> SheetKind
     }
 }
 
-// The letters of the name that `p` and then `q` make; none where it has no `w` line.
-// The sheet is accepted and `starts` is its list.
-pub fn letters_of(sheet: &[u8], starts: &[Start], p: &[u8], q: &[u8]) -> Letters
-    requires { ⌜ Indexed (now sheet) (now starts) ⌝ }
-    ensures { λ r. ⌜ r ≡ lettersFor (now (sheet .entry)) (now (p .entry) ++ now (q .entry)) ⌝ }
+// The letters that a value spells, none where there is no line.
+fn letters_at(sheet: &[u8], v: Spot) -> Letters
+    requires { ⌜ v .at + v .len ≤ length (now sheet) ⌝ }
+    ensures { λ r. ⌜ r ≡ lettersTold (textAt (now (sheet .entry)) v) ⌝ }
 {
-    let v = value_of(sheet, starts, b'w', p, q);
     if !v.found {
         return Letters {
             word: false,
@@ -119,4 +130,23 @@ pub fn letters_of(sheet: &[u8], starts: &[Start], p: &[u8], q: &[u8]) -> Letters
     let at = v.at;
     let end = at + v.len;
     read_letters(&sheet[at..end])
+}
+
+// The letters of the name that `p` and then `q` make; none where it has no `w` line.
+// The sheet is accepted and `starts` is its list.
+pub fn letters_of(sheet: &[u8], starts: &[Start], p: &[u8], q: &[u8]) -> Letters
+    requires { ⌜ Indexed (now sheet) (now starts) ⌝ }
+    ensures { λ r. ⌜ r ≡ lettersFor (now (sheet .entry)) (now (p .entry) ++ now (q .entry)) ⌝ }
+{
+    letters_at(sheet, value_of(sheet, starts, b'w', p, q))
+}
+
+// The same, where the lines whose names begin with `p` are known: the name is sought among these.
+// The sheet is accepted and `starts` is its list.
+pub fn letters_in(sheet: &[u8], starts: &[Start], range: Range, p: &[u8], q: &[u8]) -> Letters
+    requires { ⌜ Indexed (now sheet) (now starts) × Begun (now sheet) (now starts) 0x77 (now p) range ⌝ }
+    ensures { λ r. ⌜ r ≡ lettersFor (now (sheet .entry)) (now (p .entry) ++ now (q .entry)) ⌝ }
+{
+    let line = seek_in(sheet, starts, range, b'w', p, q);
+    letters_at(sheet, value_at(sheet, line, p.len() + q.len()))
 }

@@ -1,22 +1,36 @@
-// Whether a first letter has a line whose name begins so. One such question spares a question for each name that begins so.
+// The lines of a letter whose names begin alike. They stand together, so that two searches by halves find the first and the last of
+// them; a question whose name begins so is then sought among these alone, by what follows.
 ghost use mathlib.Core.Path.{_≡_};
 ghost use mathlib.Core.Bool.{true};
-ghost use lib.ListN.{drop};
+ghost use mathlib.Core.List.{_++_};
+ghost use Prim.Native.Nat.{_≤_};
+ghost use lib.ListN.{length, drop};
 ghost use Rattle.sheet.specs.Forms.{isForm, key, keyOf};
 ghost use Rattle.sheet.specs.Lines.{lineAt};
 ghost use Rattle.sheet.specs.Replies.{Indexed};
-ghost use Rattle.lookup.specs.Search.{headed};
-ghost use Rattle.lookup.specs.Begins.{BeginsIn};
+ghost use Rattle.lookup.specs.Search.{headed, Sought};
+ghost use Rattle.lookup.specs.Begins.{Begun, Edged, Ended};
+use crate::search::Found;
+use crate::search::along;
+use crate::search::name_order;
+use crate::search::wide;
 use crate::starts::Start;
-use crate::starts::until;
 use runs::Order;
-use runs::compare;
 
-// How many lines are compared at most, as many as in a search.
-const ROUNDS: usize = 13;
+// Lines of a sheet by their numbers: from `lo` on, before `hi`.
+pub struct Range {
+    pub lo: usize,
+    pub hi: usize,
+}
+
+// Where such lines can begin, and a number before which they end.
+pub(crate) struct Edge {
+    pub lo: usize,
+    pub top: usize,
+}
 
 // How the line that begins at `at` stands to all lines of the letter whose names begin with `head`: equal if it is one of them.
-// No more of the name is compared than the head is long. A form stands there.
+// A form stands there.
 fn head_order(sheet: &[u8], at: usize, letter: u8, head: &[u8]) -> Order
     requires { ⌜ isForm (drop at (now sheet)) ≡ true ⌝ }
     ensures { λ r. ⌜ r ≡ headed (key (lineAt (now (sheet .entry)) at)) (keyOf letter (now (head .entry))) ⌝ }
@@ -29,44 +43,108 @@ fn head_order(sheet: &[u8], at: usize, letter: u8, head: &[u8]) -> Order
         return Order::Greater;
     }
     let from = at + 3;
-    let end = until(sheet, from, b' ');
-    let n = head.len();
-    if end - from < n {
-        return compare(&sheet[from..end], head);
-    }
-    let stop = from + n;
-    compare(&sheet[from..stop], head)
+    along(&sheet[from..], head)
 }
 
-// Whether some line of the letter has a name that begins with `head`. Lines whose names begin alike stand together, so that any
-// one of them is found by halves.
-// The sheet is accepted, and `starts` is what `fill_starts` stores of it.
-pub fn some_begins(sheet: &[u8], starts: &[Start], letter: u8, head: &[u8]) -> bool
+// The first line that does not stand below all lines that begin so, and the nearest line seen above them.
+fn edge_of(sheet: &[u8], starts: &[Start], letter: u8, head: &[u8]) -> Edge
     requires { ⌜ Indexed (now sheet) (now starts) ⌝ }
-    ensures { λ r. ⌜ BeginsIn (now (sheet .entry)) letter (now (head .entry)) r ⌝ }
+    ensures { λ r. ⌜ Edged (now (sheet .entry)) (now (starts .entry)) letter (now (head .entry)) r ⌝ }
 {
-    let mut left: usize = ROUNDS;
     let mut lo: usize = 0;
     let mut hi: usize = starts.len();
-    while 0 < left {
-        if hi <= lo {
-            return false;
-        }
-        left -= 1;
+    let mut top: usize = hi;
+    while lo < hi {
         let mid = lo + (hi - lo) / 2;
-        let at = starts[mid] as usize;
+        let at = wide(starts[mid]);
         let o = head_order(sheet, at, letter, head);
         match o {
             Order::Less => {
                 lo = mid + 1;
             }
             Order::Equal => {
-                return true;
+                hi = mid;
+            }
+            Order::Greater => {
+                hi = mid;
+                top = mid;
+            }
+        }
+    }
+    Edge { lo, top }
+}
+
+// The first line from number `from` on, before number `to`, that stands above all lines that begin so; `to` if there is none.
+fn end_of(sheet: &[u8], starts: &[Start], letter: u8, head: &[u8], from: usize, to: usize) -> usize
+    requires { ⌜ Indexed (now sheet) (now starts) × (from ≤ to) × (to ≤ length (now starts)) ⌝ }
+    ensures { λ r. ⌜ Ended (now (sheet .entry)) (now (starts .entry)) letter (now (head .entry)) from to r ⌝ }
+{
+    let mut lo: usize = from;
+    let mut hi: usize = to;
+    while lo < hi {
+        let mid = lo + (hi - lo) / 2;
+        let at = wide(starts[mid]);
+        let o = head_order(sheet, at, letter, head);
+        match o {
+            Order::Less => {
+                lo = mid + 1;
+            }
+            Order::Equal => {
+                lo = mid + 1;
             }
             Order::Greater => {
                 hi = mid;
             }
         }
     }
-    false
+    hi
+}
+
+// The lines of the letter whose names begin with `head`.
+// The sheet is accepted, and `starts` is what `fill_starts` stores of it.
+pub fn range_of(sheet: &[u8], starts: &[Start], letter: u8, head: &[u8]) -> Range
+    requires { ⌜ Indexed (now sheet) (now starts) ⌝ }
+    ensures { λ r. ⌜ Begun (now (sheet .entry)) (now (starts .entry)) letter (now (head .entry)) r ⌝ }
+{
+    let edge = edge_of(sheet, starts, letter, head);
+    let lo = edge.lo;
+    let top = edge.top;
+    let hi = end_of(sheet, starts, letter, head, lo, top);
+    Range { lo, hi }
+}
+
+// The line of the question (letter, the name that `p` and then `q` make) among the lines whose names begin with `p`: only what
+// follows is compared.
+pub(crate) fn seek_in(
+    sheet: &[u8],
+    starts: &[Start],
+    range: Range,
+    letter: u8,
+    p: &[u8],
+    q: &[u8],
+) -> Found
+    requires { ⌜ Indexed (now sheet) (now starts) × Begun (now sheet) (now starts) letter (now p) range ⌝ }
+    ensures { λ r. ⌜ Sought (now (sheet .entry)) letter (now (p .entry) ++ now (q .entry)) r ⌝ }
+{
+    let skip = 3 + p.len();
+    let mut lo: usize = range.lo;
+    let mut hi: usize = range.hi;
+    while lo < hi {
+        let mid = lo + (hi - lo) / 2;
+        let at = wide(starts[mid]);
+        let from = at + skip;
+        let o = name_order(&sheet[from..], q);
+        match o {
+            Order::Less => {
+                lo = mid + 1;
+            }
+            Order::Equal => {
+                return Found::At(at);
+            }
+            Order::Greater => {
+                hi = mid;
+            }
+        }
+    }
+    Found::Nothing
 }

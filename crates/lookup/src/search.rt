@@ -22,7 +22,7 @@ pub enum Found {
 // How many lines a search compares at most.
 const ROUNDS: usize = 13;
 
-fn wide(x: Start) -> usize
+pub(crate) fn wide(x: Start) -> usize
     ensures { λ r. ⌜ r ≡ x ⌝ }
 {
     x as usize
@@ -30,7 +30,7 @@ fn wide(x: Start) -> usize
 
 // How the name at the front of `t`, up to its space, stands to all names that begin with `p`: equal if it is one of them.
 // It takes any two runs.
-fn along(t: &[u8], p: &[u8]) -> Order
+pub(crate) fn along(t: &[u8], p: &[u8]) -> Order
     ensures { λ r. ⌜ r ≡ headed (spaced (now (t .entry))) (now (p .entry)) ⌝ }
 {
     let mut i = 0;
@@ -56,7 +56,7 @@ fn along(t: &[u8], p: &[u8]) -> Order
 
 // The order of the name at the front of `t`, up to its space, and `q`.
 // It takes any two runs.
-fn name_order(t: &[u8], q: &[u8]) -> Order
+pub(crate) fn name_order(t: &[u8], q: &[u8]) -> Order
     ensures { λ r. ⌜ r ≡ cmp (spaced (now (t .entry))) (now (q .entry)) ⌝ }
 {
     let o = along(t, q);

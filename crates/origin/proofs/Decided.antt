@@ -1,26 +1,17 @@
--- Laws of the decision: which rule decides, by what was found on the way; and what an accepted pair of inputs says of the sheet.
--- Assumes nothing.
-use mathlib.Core.Path.{_≡_, refl, ap, _∙_}
+-- Laws of the decision: which rule decides, by what was found on the way. Assumes nothing.
+use mathlib.Core.Path.{_≡_, ap, _∙_}
 use mathlib.Core.List.{List}
 use Prim.Native.Nat.{ℕ}
 use lib.ListN.{length}
 use borrow.Author.Tests.{eq-eqb, ne-eqb}
-use Rattle.text.specs.Word.{wordCheck}
-use Rattle.text.specs.declared.word.WordCheck.{WordCheck}
-use Rattle.text.specs.declared.word.WordCheck.the-variants as words
 use Rattle.tables.specs.Origins.{originOf}
 use Rattle.tables.specs.declared.origins.OriginFound.{OriginFound}
 use Rattle.tables.specs.declared.origins.OriginFound.the-variants.{Unlisted}
-use Rattle.sheet.specs.Lines.{sheetCheck}
 use Rattle.sheet.specs.Replies.{Ask}
-use Rattle.sheet.specs.declared.check.SheetCheck.{SheetCheck}
-use Rattle.sheet.specs.declared.check.SheetCheck.the-variants as sheets
 use Rattle.origin.specs.Marks.{heuristicOf}
 use Rattle.origin.specs.Decisions.{byWord, byStem, noEvidence, knownBy, knownStem, orByTable, orByKosha, byMarks, decisionOf}
-use Rattle.origin.specs.Answers.{bySheet, byWordThen, inputsOf}
 use Rattle.origin.specs.declared.OriginDecision.{OriginDecision}
 use Rattle.origin.specs.declared.kosha.Known.{Known}
-use Rattle.origin.specs.declared.entries.Inputs.the-variants as inputs
 
 module _ (ask : Ask) (w : List ℕ) where
   pub by-none : length w ≡ 0 → noEvidence ≡ decisionOf ask w
@@ -38,17 +29,3 @@ module _ (ask : Ask) (w : List ℕ) where
   pub by-own : (k : Known) → (length w ≡ 0 → ⊥) → Unlisted ≡ originOf w → k ≡ knownBy ask w
       → orByKosha byWord k (orByKosha byStem (knownStem ask w) (byMarks (heuristicOf w))) ≡ decisionOf ask w
   by-own k h e f = ap (λ (x : Known). orByKosha byWord x (orByKosha byStem (knownStem ask w) (byMarks (heuristicOf w)))) f ∙ by-table Unlisted h e
-
--- inputs are accepted only where the sheet is
-pub accepted-sheet : (word sheet : List ℕ) → inputsOf word sheet ≡ inputs.Accepted → sheetCheck sheet ≡ sheets.Accepted
-unfolding inputsOf
-accepted-sheet word sheet e = go (wordCheck word) (sheetCheck sheet) e
-  where
-    go : (x : WordCheck) (y : SheetCheck) → byWordThen x (bySheet y) ≡ inputs.Accepted → y ≡ sheets.Accepted
-    go words.Accepted sheets.Accepted p = refl
-    go words.Accepted sheets.TooLong p = cc
-    go words.Accepted (sheets.NoForm at) p = cc
-    go words.Accepted (sheets.NotAbove at) p = cc
-    go words.TooLong y p = cc
-    go words.NotUtf8 y p = cc
-    go words.Forbidden y p = cc

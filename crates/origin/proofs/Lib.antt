@@ -1,5 +1,4 @@
 pub mod Marked
-pub mod Numbers
 pub mod Stems
 pub mod Decided
 pub mod Contained

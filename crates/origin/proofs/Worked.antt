@@ -13,15 +13,16 @@ use Rattle.tables.specs.declared.origins.Origin.the-variants.{Tatsam, Tadbhav, 
 use Rattle.sheet.specs.Letters.{tagOf, lettersOf, wellKept, isLetters}
 use Rattle.sheet.specs.Forms.{entryOf, written, isName, isKind, isMeant, isForm}
 use Rattle.sheet.specs.Lines.{judged, sheetCheck}
+use Rattle.sheet.specs.Inputs.{inputsOf}
 use Rattle.sheet.specs.Replies.{reply}
+use Rattle.sheet.specs.declared.inputs.Refusal.the-variants.{WordNotUtf8, WordForbidden, SheetNoForm, SheetNotAbove}
 use Rattle.strips.specs.Suffix.{sheds, isLong, plain, shared, remainders}
 use Rattle.origin.specs.Marks.{containsOne, endsInOne, aagantukMarks, nukta, hasAagantukMarkers, tatsamMarks, hasTatsamMarkers, tadbhavEnds, hasTadbhavMarkers, heuristicOf}
 use Rattle.origin.specs.Decisions.{none, byMark, byStem, byWord, sure, decided, knownIn, knownBy, knownRest, knownUnder, knownStem, decisionOf}
-use Rattle.origin.specs.Answers.{inputsOf, decisionAnswer}
+use Rattle.origin.specs.Answers.{decisionAnswer}
 use Rattle.origin.specs.declared.OriginSource.the-variants.{Override, Kosha, Heuristic, Unknown}
 use Rattle.origin.specs.declared.entries.DecisionAnswer.{DecisionAnswer}
 use Rattle.origin.specs.declared.entries.DecisionAnswer.the-variants.{Decided, Refused}
-use Rattle.origin.specs.declared.entries.Refusal.the-variants.{WordNotUtf8, WordForbidden, SheetNoForm, SheetNotAbove}
 
 -- घर
 abbrev ghar : List ℕ

@@ -10,10 +10,12 @@ use Rattle.text.specs.Word.{wordCheck}
 use Rattle.sheet.specs.Letters.{tagOf, lettersOf, wellKept, isLetters}
 use Rattle.sheet.specs.Forms.{entryOf, written, isName, isKind, isMeant, isForm}
 use Rattle.sheet.specs.Lines.{judged, sheetCheck}
+use Rattle.sheet.specs.Inputs.{inputsOf}
 use Rattle.sheet.specs.Replies.{reply}
+use Rattle.sheet.specs.declared.inputs.Refusal.the-variants.{SheetNoForm}
 use Rattle.lookup.specs.Search.{placeOf}
 use Rattle.progressive.specs.declared.entry.Answer.{Answer}
-use Rattle.progressive.specs.declared.entry.Answer.the-variants.{SheetNoForm, Given}
+use Rattle.progressive.specs.declared.entry.Answer.the-variants.{Refused, Given}
 use Rattle.progressive.specs.Progressive.{regular, lemmaOf, isShaped, progressiveOf}
 use Rattle.progressive.specs.Found.{noForm}
 use Rattle.progressive.specs.Answers.{answerOf}
@@ -68,9 +70,9 @@ outcomes =
     Given (record { found = true; «main_end» = 9; negative = false; «lemma_at» = 3; «lemma_len» = 12 }) ∷
     Given (record { found = true; «main_end» = 12; negative = true; «lemma_at» = 3; «lemma_len» = 12 }) ∷
     Given noForm ∷
-    SheetNoForm 0 ∷
+    Refused (SheetNoForm 0) ∷
     []
 
 pub cases : map (λ (c : Case). answerOf (c .word) (c .sheet)) inputs ≡ outcomes
-unfolding khairaheko nakhairaheko gariraheko khanu linked inputs outcomes isUtf8 run after opened utf8Char within forbidden nameRun holdsForbidden wordCheck tagOf lettersOf wellKept isLetters entryOf written isName isKind isMeant isForm judged sheetCheck reply placeOf regular lemmaOf isShaped progressiveOf answerOf
+unfolding khairaheko nakhairaheko gariraheko khanu linked inputs outcomes isUtf8 run after opened utf8Char within forbidden nameRun holdsForbidden wordCheck tagOf lettersOf wellKept isLetters entryOf written isName isKind isMeant isForm judged sheetCheck reply placeOf regular lemmaOf isShaped progressiveOf inputsOf answerOf
 cases = refl

@@ -79,9 +79,9 @@ module _ (s w : List ℕ) where
         some-form t true r (after-na ∙ ap negative q) (rw q at k) f
 
   -- a form is found where there is one
+  pub form-found : (o : Outcome) → formOf s w o .found ≡ isYes o
+  form-found no = refl
+  form-found (yes name n) = refl
+
   pub found-form : (r : Progressive) → FormAt s w r → r .found ≡ isProgressive (reply s) w
-  found-form r k = ap (λ (x : Progressive). x .found) (k .settled) ∙ go (progressiveOf (reply s) w)
-    where
-      go : (o : Outcome) → formOf s w o .found ≡ isYes o
-      go no = refl
-      go (yes name n) = refl
+  found-form r k = ap (λ (x : Progressive). x .found) (k .settled) ∙ form-found (progressiveOf (reply s) w)

@@ -3,26 +3,26 @@ ghost use mathlib.Core.Path.{_≡_};
 ghost use Rattle.sheet.specs.Lines.{sheetCheck};
 ghost use Rattle.sheet.specs.declared.check.SheetCheck.the-variants.{Accepted};
 ghost use Rattle.progressive.specs.Found.{FormAt};
-ghost use Rattle.progressive.specs.Answers.{Answered, Analyzed, nameBySheet, bySheet, answerOf, formGiven, lemmaPart, lemmaText};
+ghost use Rattle.progressive.specs.Answers.{Analyzed, answerOf, formGiven, lemmaPart, lemmaText, supportedOf};
 use crate::find::Progressive;
 use crate::find::find_progressive;
 use crate::find::no_form;
 use lookup::starts::Start;
 use lookup::starts::fill_starts;
-use sheet::check::SheetCheck;
-use sheet::check::check_sheet;
-use text::word::WordCheck;
-use text::word::check_word;
+use sheet::inputs::Inputs;
+use sheet::inputs::Refusal;
+use sheet::inputs::check_inputs;
 
-// What the analysis gives: one of the refusals of a word and of a sheet, or what was found.
+// What the analysis gives: why word or sheet is refused, or what was found.
 pub enum Answer {
-    WordTooLong,
-    WordNotUtf8,
-    WordForbidden,
-    SheetTooLong,
-    SheetNoForm(usize),
-    SheetNotAbove(usize),
+    Refused(Refusal),
     Given(Progressive),
+}
+
+// The answer of `has_supported_progressive_form`.
+pub enum Supported {
+    Refused(Refusal),
+    Given(bool),
 }
 
 // The progressive form of the word, with a list of the sheet's lines made for this one search. It has room for the 6,553 lines
@@ -36,29 +36,28 @@ fn indexed(word: &[u8], sheet: &[u8]) -> Progressive
     find_progressive(sheet, &starts[..n], word)
 }
 
-// What is given for a word that is accepted.
-fn by_sheet(word: &[u8], sheet: &[u8]) -> Answer
-    ensures { λ r. ⌜ Answered (now (word .entry)) (now (sheet .entry)) (nameBySheet (now (word .entry)) (now (sheet .entry)) (sheetCheck (now (sheet .entry)))) (bySheet (now (word .entry)) (now (sheet .entry)) (sheetCheck (now (sheet .entry)))) r ⌝ }
-{
-    let said = check_sheet(sheet);
-    match said {
-        SheetCheck::TooLong => Answer::SheetTooLong,
-        SheetCheck::NoForm(at) => Answer::SheetNoForm(at),
-        SheetCheck::NotAbove(at) => Answer::SheetNotAbove(at),
-        SheetCheck::Accepted => Answer::Given(indexed(word, sheet)),
-    }
-}
-
 // The progressive form of the word, or why word or sheet is refused: the lowest number that applies.
 pub fn analyze_progressive(word: &[u8], sheet: &[u8]) -> Answer
     ensures { λ r. ⌜ Analyzed (now (word .entry)) (now (sheet .entry)) r ⌝ }
 {
-    let said = check_word(word);
-    match said {
-        WordCheck::TooLong => Answer::WordTooLong,
-        WordCheck::NotUtf8 => Answer::WordNotUtf8,
-        WordCheck::Forbidden => Answer::WordForbidden,
-        WordCheck::Accepted => by_sheet(word, sheet),
+    let inputs = check_inputs(word, sheet);
+    match inputs {
+        Inputs::Refused(refusal) => Answer::Refused(refusal),
+        Inputs::Accepted => Answer::Given(indexed(word, sheet)),
+    }
+}
+
+// Whether the word is a supported progressive form, one in which a lemma is found; or why word or sheet is refused.
+pub fn has_supported_progressive_form(word: &[u8], sheet: &[u8]) -> Supported
+    ensures { λ r. ⌜ r ≡ supportedOf (now (word .entry)) (now (sheet .entry)) ⌝ }
+{
+    let answer = analyze_progressive(word, sheet);
+    match answer {
+        Answer::Refused(refusal) => Supported::Refused(refusal),
+        Answer::Given(form) => {
+            let found = form.found;
+            Supported::Given(found)
+        }
     }
 }
 
@@ -67,12 +66,7 @@ fn form_of(answer: Answer) -> Progressive
     ensures { λ r. ⌜ r ≡ formGiven answer ⌝ }
 {
     match answer {
-        Answer::WordTooLong => no_form(),
-        Answer::WordNotUtf8 => no_form(),
-        Answer::WordForbidden => no_form(),
-        Answer::SheetTooLong => no_form(),
-        Answer::SheetNoForm(_) => no_form(),
-        Answer::SheetNotAbove(_) => no_form(),
+        Answer::Refused(_) => no_form(),
         Answer::Given(form) => form,
     }
 }

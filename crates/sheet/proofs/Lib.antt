@@ -6,3 +6,4 @@ pub mod Heads
 pub mod Stepped
 pub mod Lines
 pub mod Faults
+pub mod Refusals

@@ -4,3 +4,4 @@ pub mod Passing
 pub mod Lines
 pub mod Steps
 pub mod Replies
+pub mod Inputs

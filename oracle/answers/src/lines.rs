@@ -118,6 +118,11 @@ fn progressive(word: &str) -> String {
     }
 }
 
+/// The source's own yes or no, which is no line of `all`.
+pub fn has_progressive(word: &str) -> String {
+    format!("has_progressive {}\n", yes_or_no(shabda::has_supported_progressive_form(word)))
+}
+
 fn origin(word: &str) -> String {
     let decision = shabda::classify_with_provenance(word);
     let source = match decision.source {

@@ -32,6 +32,11 @@ pub const QUESTIONS: &[Question] = &[
         port: |case| progressive(case, port::progressive(&case.word, &case.sheet)),
     },
     Question {
+        name: "has_progressive",
+        oracle: |case| text(&answers::has_progressive(&case.word, &case.sheet)).trim_end().to_string(),
+        port: |case| has_progressive(port::has_progressive(&case.word, &case.sheet)),
+    },
+    Question {
         name: "origin",
         oracle: |case| oracle_line(case, "origin "),
         port: |case| origin(port::origin(&case.word, &case.sheet), port::confidence(&case.word, &case.sheet)),
@@ -81,6 +86,15 @@ fn progressive(case: &Case, code: u64) -> String {
     // The auxiliary's lemma is the same for every form, so the port does not hand it back.
     let sign = if negative == 1 { "negative" } else { "affirmative" };
     format!("progressive {main} {lemma} {auxiliary} रहनु {sign}")
+}
+
+/// The port's yes or no, written as the oracle does.
+fn has_progressive(code: u64) -> String {
+    match code {
+        0 => "has_progressive no".to_string(),
+        15 => "has_progressive yes".to_string(),
+        _ => refusal(code),
+    }
 }
 
 fn text(bytes: &[u8]) -> String {

@@ -15,6 +15,8 @@ mod foreign {
         /// The refusal as above; 0 for no progressive form; else 15 and, from bit 4 on, negative
         /// (1 bit), the main form's end (8), the lemma's length (8) and its place in the sheet.
         pub fn yunthirel_progressive(word: *const u8, word_len: usize, sheet: *const u8, sheet_len: usize) -> u64;
+        /// The refusal as above; 0 for no supported progressive form, 15 for one.
+        pub fn yunthirel_has_progressive(word: *const u8, word_len: usize, sheet: *const u8, sheet_len: usize) -> u64;
         /// The refusal as above; else 0 in the lowest four bits, then origin (2 bits) and source (2).
         pub fn yunthirel_origin(word: *const u8, word_len: usize, sheet: *const u8, sheet_len: usize) -> u64;
         /// The confidence of the origin; 0.0 for a refusal.
@@ -35,6 +37,11 @@ pub fn check_sheet(sheet: &[u8]) -> u64 {
 pub fn progressive(word: &[u8], sheet: &[u8]) -> u64 {
     // SAFETY: as above, for two slices.
     unsafe { foreign::yunthirel_progressive(word.as_ptr(), word.len(), sheet.as_ptr(), sheet.len()) }
+}
+
+pub fn has_progressive(word: &[u8], sheet: &[u8]) -> u64 {
+    // SAFETY: as above.
+    unsafe { foreign::yunthirel_has_progressive(word.as_ptr(), word.len(), sheet.as_ptr(), sheet.len()) }
 }
 
 pub fn origin(word: &[u8], sheet: &[u8]) -> u64 {

@@ -1,7 +1,7 @@
 -- `analysis::prefixes::first_rows` meets its contract: what all rows add is what those to come add to what has been collected. Assumes nothing.
 use Prim.Native.Nat.{ℕ, _-_, _<_, _≤_}
 use native.Mathlib.Omega.{arith}
-use mathlib.Core.Path.{_≡_, refl, sym, _∙_}
+use mathlib.Core.Path.{_≡_, refl, sym, ap, _∙_}
 use mathlib.Core.List.{List}
 use lib.ListN.{take}
 use Rattle.sheet.specs.Replies.{reply}
@@ -9,7 +9,10 @@ use Rattle.ranking.specs.Lists.{foundOf, plusAll}
 use Rattle.ranking.specs.declared.Reading.{Reading}
 use Rattle.paths.specs.declared.Chain.{Chain}
 use Rattle.paths.specs.Walk.{secondWalk, overForms}
-use Rattle.analysis.proofs.Turns.{form-turn, form-end}
+use Rattle.runs.specs.Runs.{beginsWith}
+use Rattle.paths.specs.Chains.{formOf}
+use Rattle.analysis.proofs.Cuts.{whole-front}
+use Rattle.analysis.proofs.Turns.{form-turn, form-pass, form-end}
 use Rattle.analysis.proofs.prefixes.first_rows.Statement.{statement}
 use Rattle.analysis.proofs.prefixes.first_rows.Tie as tie
 
@@ -33,20 +36,34 @@ loop-holds c = (omega arith, refl)
 abbrev start : tie.At-loop Inv-loop μ-loop → tie.Start Inv-loop μ-loop
 start c = c .before .before .before .before .before .before .before .before
 
+begins-requires : tie.Need-begins-requires Inv-loop μ-loop
+begins-requires c κs = let p = start (c .before) .pre in (p .0 .forms-laid, omega arith, p .1, c .loop-test .taken)
+
 first-row-requires : tie.Need-first-row-requires Inv-loop μ-loop
-first-row-requires c κs = let p = start (c .before) .pre in (p .0, p .1, c .loop-test .taken, p .2, p .3)
+first-row-requires c κs = let i = c .before .before in let p = start (i .before) .pre in (p .0, p .1, i .loop-test .taken, p .2, p .3)
 
 add-k : tie.Need-add-k Inv-loop μ-loop
 add-k c = omega arith
 
 loop-less : tie.Need-loop-less Inv-loop μ-loop
-loop-less c = omega arith
+loop-less c = omega (arith, c .before .before .before .loop-test .taken)
 
 loop-again : tie.Need-loop-again Inv-loop μ-loop
 loop-again c =
-    let k = c .before .before in
+    let i = c .before .before .before in
+    let k = i .before in
     let a = start k .args in
-    (omega arith, k .loop .inv .1 ∙ form-turn (a .word .now) (each (a .word .now) (a .sheet .now) (a .stem) (a .chain) (a .surface)) (take (a .stem) (a .word .now)) (k .loop .k) 30 (foundOf (k .loop .f)) _ (c .before .loop-test .taken) (c .first-row .ensures))
+    (omega (arith, i .loop-test .taken), k .loop .inv .1 ∙ form-turn (a .word .now) (each (a .word .now) (a .sheet .now) (a .stem) (a .chain) (a .surface)) (take (a .stem) (a .word .now)) (k .loop .k) 30 (foundOf (k .loop .f)) _ (i .loop-test .taken) (c .first-row .ensures))
+
+loop-less-2 : tie.Need-loop-less-2 Inv-loop μ-loop
+loop-less-2 c = omega (arith, c .before .before .loop-test .taken)
+
+loop-again-2 : tie.Need-loop-again-2 Inv-loop μ-loop
+loop-again-2 c =
+    let i = c .before .before in
+    let k = i .before in
+    let a = start k .args in
+    (omega (arith, i .loop-test .taken), k .loop .inv .1 ∙ form-pass (a .word .now) (each (a .word .now) (a .sheet .now) (a .stem) (a .chain) (a .surface)) (take (a .stem) (a .word .now)) (k .loop .k) 30 (foundOf (k .loop .f)) (i .loop-test .taken) (ap (beginsWith (formOf (k .loop .k))) (sym (whole-front (a .word .now) (a .stem))) ∙ sym (c .before .begins .ensures) ∙ c .if1 .left))
 
 returns : tie.Need-returns Inv-loop μ-loop
 returns c =
@@ -55,4 +72,5 @@ returns c =
     sym (k .loop .inv .1 ∙ form-end (a .word .now) (each (a .word .now) (a .sheet .now) (a .stem) (a .chain) (a .surface)) (take (a .stem) (a .word .now)) (k .loop .k) 30 (foundOf (k .loop .f)) (c .loop-test .left))
 
 pub first-rows-spec : {M : Type 1} → statement M
-first-rows-spec = tie.close (tie.spec Inv-loop μ-loop loop-holds first-row-requires add-k loop-less loop-again returns)
+first-rows-spec =
+    tie.close (tie.spec Inv-loop μ-loop loop-holds add-k begins-requires first-row-requires loop-less loop-again loop-less-2 loop-again-2 returns)

@@ -22,7 +22,7 @@ use Rattle.ranking.specs.declared.AffixKind.{AffixKind}
 use Rattle.paths.specs.declared.Chain.{Chain}
 use Rattle.paths.specs.Readings.{kindOf}
 use Rattle.paths.specs.Walk.{pushedOf, rowsWalk, pieceWalk}
-use Rattle.analysis.proofs.Strips.{Lefts, lefts, shorter, row-none, row-plain, row-both, row-turn, row-end, piece-progressive, piece-last, piece-rows}
+use Rattle.analysis.proofs.Strips.{Lefts, lefts, shorter, row-none, row-plain, row-both, row-turn, row-pass, row-end, piece-progressive, piece-last, piece-rows}
 use Rattle.analysis.proofs.suffixes.below.Reads as below
 use Rattle.analysis.proofs.suffixes.below.Kinds as below-kinds
 use Rattle.analysis.proofs.suffixes.+below+visit.Lts-below as below-lts
@@ -30,6 +30,7 @@ use Rattle.analysis.proofs.suffixes.visit.Reads as visit
 use Rattle.analysis.proofs.suffixes.visit.Kinds as visit-kinds
 use Rattle.analysis.proofs.suffixes.+below+visit.Lts-visit as visit-lts
 use Rattle.analysis.proofs.prefixes.with_stem.Reads as with-stem-reads
+use Rattle.analysis.proofs.suffixes.ends.Reads as ends-reads
 use Rattle.analysis.proofs.suffixes.kind_at.Reads as kind-at-reads
 use Rattle.analysis.proofs.suffixes.pushed.Reads as pushed-reads
 use Rattle.analysis.proofs.suffixes.rows_after.Reads as rows-after-reads
@@ -81,6 +82,8 @@ visit-claims t = (
   has-supported-progressive-form-reads.Learnt,
   with-stem-reads.Asked,
   with-stem-reads.Learnt,
+  ends-reads.Asked,
+  ends-reads.Learnt,
   below-below t,
   below.Post,
 )
@@ -253,24 +256,41 @@ module _ (t : ℕ) (c : visit-lts.At-loop (visit-claims t) (visit-at t) visit.Po
 visit-loop-holds : (t : ℕ) → visit-lts.Need-loop-holds (visit-claims t) (visit-at t) visit.Post visit-Inv-loop visit-μ-loop
 visit-loop-holds t c = (omega arith, rw (sub-zero (c .before .before .before .before .before .before .before .before .before .before .before .before .before .args .rows)))
 
+visit-add-k : (t : ℕ) → visit-lts.Need-add-k (visit-claims t) (visit-at t) visit.Post visit-Inv-loop visit-μ-loop
+visit-add-k t c = omega (arith, c .loop-test .taken, entered t (c .before) .pre .1 .4)
+
+visit-ends-requires : (t : ℕ) → visit-lts.Need-ends-requires (visit-claims t) (visit-at t) visit.Post visit-Inv-loop visit-μ-loop
+visit-ends-requires t c κs = let a = entered t (c .before) in (a .pre .1 .0 .texts-laid, a .pre .1 .1, omega (arith, c .loop-test .taken, a .pre .1 .4))
+
 visit-below-requires : (t : ℕ) → visit-lts.Need-below-requires (visit-claims t) (visit-at t) visit.Post visit-Inv-loop visit-μ-loop
 visit-below-requires t c κs =
-    let k = c .before in
+    let i = c .before .before in
+    let k = i .before in
     let a = entered t k in
-    (omega (arith, a .pre .0), (a .pre .1 .0, a .pre .1 .1, a .pre .1 .2, k .before .if2 .left, omega (arith, c .loop-test .taken, a .pre .1 .4)))
-
-visit-add-k : (t : ℕ) → visit-lts.Need-add-k (visit-claims t) (visit-at t) visit.Post visit-Inv-loop visit-μ-loop
-visit-add-k t c = omega (arith, c .before .loop-test .taken, entered t (c .before .before) .pre .1 .4)
+    (omega (arith, a .pre .0), (a .pre .1 .0, a .pre .1 .1, a .pre .1 .2, k .before .if2 .left, omega (arith, i .loop-test .taken, a .pre .1 .4)))
 
 visit-loop-less : (t : ℕ) → visit-lts.Need-loop-less (visit-claims t) (visit-at t) visit.Post visit-Inv-loop visit-μ-loop
-visit-loop-less t c = omega (arith, c .before .loop-test .taken)
+visit-loop-less t c = omega (arith, c .before .before .before .loop-test .taken)
 
 visit-loop-again : (t : ℕ) → visit-lts.Need-loop-again (visit-claims t) (visit-at t) visit.Post visit-Inv-loop visit-μ-loop
 visit-loop-again t c =
-    let k = c .before .before in
+    let i = c .before .before .before in
+    let k = i .before in
     let a = entered t k .args in (
-      omega (arith, c .before .loop-test .taken),
-      k .loop .inv .1 ∙ row-turn (a .word .now) (take (a .end) (a .word .now)) (below-it t k) (reply (a .sheet .now)) (a .chain) (k .loop .k) (a .rows) (foundOf (k .loop .f)) _ (c .before .loop-test .taken) (c .below .ensures),
+      omega (arith, i .loop-test .taken),
+      k .loop .inv .1 ∙ row-turn (a .word .now) (take (a .end) (a .word .now)) (below-it t k) (reply (a .sheet .now)) (a .chain) (k .loop .k) (a .rows) (foundOf (k .loop .f)) _ (i .loop-test .taken) (c .below .ensures),
+    )
+
+visit-loop-less-2 : (t : ℕ) → visit-lts.Need-loop-less-2 (visit-claims t) (visit-at t) visit.Post visit-Inv-loop visit-μ-loop
+visit-loop-less-2 t c = omega (arith, c .before .before .loop-test .taken)
+
+visit-loop-again-2 : (t : ℕ) → visit-lts.Need-loop-again-2 (visit-claims t) (visit-at t) visit.Post visit-Inv-loop visit-μ-loop
+visit-loop-again-2 t c =
+    let i = c .before .before in
+    let k = i .before in
+    let a = entered t k .args in (
+      omega (arith, i .loop-test .taken),
+      k .loop .inv .1 ∙ row-pass (a .word .now) (take (a .end) (a .word .now)) (below-it t k) (reply (a .sheet .now)) (a .chain) (k .loop .k) (a .rows) (foundOf (k .loop .f)) (i .loop-test .taken) (sym (c .before .ends .ensures) ∙ c .if3 .left),
     )
 
 visit-returns-3 : (t : ℕ) → visit-lts.Need-returns-3 (visit-claims t) (visit-at t) visit.Post visit-Inv-loop visit-μ-loop
@@ -295,4 +315,5 @@ pub +below+visit-spec : {M : Type 1} → statement M
     λ t.
     visit-lts.spec (visit-claims t) (visit-at t) visit.Post visit-Inv-loop visit-μ-loop (visit-slice-aggregate-has-supported-progressive-form t)
     (visit-has-supported-progressive-form-requires t) (visit-with-stem-requires t) (visit-returns t) (visit-returns-2 t) (visit-loop-holds t)
-    (visit-below-requires t) (visit-add-k t) (visit-loop-less t) (visit-loop-again t) (visit-returns-3 t)
+    (visit-add-k t) (visit-ends-requires t) (visit-below-requires t) (visit-loop-less t) (visit-loop-again t) (visit-loop-less-2 t) (visit-loop-again-2 t)
+    (visit-returns-3 t)

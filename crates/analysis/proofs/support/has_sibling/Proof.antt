@@ -14,10 +14,10 @@ use Rattle.analysis.proofs.support.has_sibling.Statement.{statement}
 use Rattle.analysis.proofs.support.has_sibling.Tie as tie
 
 abbrev Inv-loop : tie.InvT-loop
-Inv-loop sheet starts texts cuts piece k₀ k = (k ≤ 25) × (knownWith (reply sheet) piece affixes ≡ knownWith (reply sheet) piece (drop k affixes))
+Inv-loop sheet starts range texts cuts piece k₀ k = (k ≤ 25) × (knownWith (reply sheet) piece affixes ≡ knownWith (reply sheet) piece (drop k affixes))
 
 abbrev μ-loop : tie.MeasureT-loop
-μ-loop sheet starts texts cuts piece k₀ k = 25 - k
+μ-loop sheet starts range texts cuts piece k₀ k = 25 - k
 
 loop-holds : tie.Need-loop-holds Inv-loop μ-loop
 loop-holds c = (omega arith, refl)
@@ -27,10 +27,10 @@ inside : (c : tie.In-loop Inv-loop μ-loop) → c .before .loop .k < length affi
 inside c = omega (arith, affix-count, c .loop-test .taken)
 
 row-requires : tie.Need-row-requires Inv-loop μ-loop
-row-requires c κs = laid-asks (c .before .before .before .before .before .before .before .pre .1) _ (inside c)
+row-requires c κs = laid-asks (c .before .before .before .before .before .before .before .pre .2) _ (inside c)
 
 is-known-requires : tie.Need-is-known-requires Inv-loop μ-loop
-is-known-requires c κs = c .before .before .before .before .before .before .before .before .pre .0
+is-known-requires c κs = let a = c .before .before .before .before .before .before .before .before in (a .pre .0, a .pre .1)
 
 -- what is asked of the row
 asked : (c : tie.After-is-known Inv-loop μ-loop) → let k = c .before .before .before in let a = k .before .before .before .before .before .before .args in
@@ -39,7 +39,7 @@ asked c =
     let i = c .before .before in
     let s = i .before .before .before .before .before .before .before in
     c .is-known .ensures
-    ∙ ap (λ (t : List ℕ). isKnown (reply (s .args .sheet .now)) (s .args .piece .now ++ t)) (c .before .row .ensures ∙ laid-row (s .pre .1) (i .before .loop .k) (inside i))
+    ∙ ap (λ (t : List ℕ). isKnown (reply (s .args .sheet .now)) (s .args .piece .now ++ t)) (c .before .row .ensures ∙ laid-row (s .pre .2) (i .before .loop .k) (inside i))
 
 returns : tie.Need-returns Inv-loop μ-loop
 returns c =

@@ -1,30 +1,51 @@
 -- `analysis::support::support_of` meets its contract, part by part. Assumes nothing.
 use Prim.Native.Nat.{ℕ}
 use borrow.Author.Needs.{needs}
-use mathlib.Core.Path.{_≡_, ap, _∙_}
-use mathlib.Core.List.{List, append-nil}
-use Rattle.sheet.specs.Replies.{lettersFor}
+use mathlib.Core.Path.{_≡_, refl, sym, ap, _∙_}
+use mathlib.Core.List.{List, [], _++_, append-nil}
+use Rattle.sheet.specs.Replies.{Reply, reply, lettersTold, lettersFor}
 use Rattle.sheet.specs.declared.letters.Letters.{Letters}
+use Rattle.lookup.proofs.Begun.{none-begun}
 use Rattle.analysis.proofs.Supported.{same-support}
+use Rattle.analysis.proofs.Siblings.{none-known}
 use Rattle.analysis.proofs.support.support_of.Statement.{statement}
 use Rattle.analysis.proofs.support.support_of.Tie as tie
 
-slice-aggregate-letters-of : tie.Need-slice-aggregate-letters-of
-slice-aggregate-letters-of c = search needs
+range-of-requires : tie.Need-range-of-requires
+range-of-requires c κs = search needs
 
-letters-of-requires : tie.Need-letters-of-requires
-letters-of-requires c κs = search needs
+-- where no name begins with the root, nothing that begins so has a reply
+unasked : (c : tie.Then1) → let a = c .before .before .before .before .before .before .before .before .args in
+    (q : List ℕ) → reply (a .sheet .now) 0x77 (a .root .now ++ q) ≡ Reply.unknown
+unasked c q =
+    let g = c .before .before in
+    let b = g .before .before .before .before .before .before in
+    none-begun (b .args .sheet .now) 0x77 (b .args .root .now) (b .args .starts .now) (b .pre .0) (g .range-of .result) (g .range-of .ensures) q (c .if1 .taken)
+
+returns : tie.Need-returns
+returns c =
+    let b = c .before .before .before .before .before .before .before .before in
+    let r = b .args .root .now in
+    let e : reply (b .args .sheet .now) 0x77 r ≡ Reply.unknown = ap (reply (b .args .sheet .now) 0x77) (sym (append-nil r)) ∙ unasked c [] in
+    same-support (ap (λ (x : Reply). lettersTold x .word) (sym e)) (ap (λ (x : Reply). lettersTold x .head) (sym e)) (sym (none-known (reply (b .args .sheet .now)) r _ (unasked c))) (b .pre .2)
+
+slice-aggregate-letters-in : tie.Need-slice-aggregate-letters-in
+slice-aggregate-letters-in c = search needs
+
+letters-in-requires : tie.Need-letters-in-requires
+letters-in-requires c κs = search needs
 
 has-sibling-requires : tie.Need-has-sibling-requires
 has-sibling-requires c κs = search needs
 
-returns : tie.Need-returns
+returns-2 : tie.Need-returns-2
 unfolding lettersFor
-returns c =
+returns-2 c =
     let l = c .before in
-    let a = l .before .before .before .before .before .before .before in
-    let e = l .letters-of .ensures ∙ ap (lettersFor (a .args .sheet .now)) (append-nil (a .args .root .now)) in
+    let a = l .before .before .before .before .before .before .before .before .before .before in
+    let e = l .letters-in .ensures ∙ ap (lettersFor (a .args .sheet .now)) (append-nil (a .args .root .now)) in
     same-support (ap (λ (x : Letters). x .word) e) (ap (λ (x : Letters). x .head) e) (c .has-sibling .ensures) (a .pre .2)
 
 pub support-of-spec : {M : Type 1} → statement M
-support-of-spec = tie.close (tie.spec slice-aggregate-letters-of letters-of-requires has-sibling-requires returns)
+support-of-spec =
+    tie.close (tie.spec range-of-requires returns slice-aggregate-letters-in letters-in-requires has-sibling-requires returns-2)

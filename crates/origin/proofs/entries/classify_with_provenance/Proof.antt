@@ -5,11 +5,11 @@ use lib.ListN.{length}
 use lib.Seq.{length-take-le}
 use Rattle.sheet.specs.Lines.{startsOf, sheetCheck}
 use Rattle.sheet.specs.declared.check.SheetCheck.the-variants.{Accepted}
+use Rattle.sheet.specs.declared.inputs.Inputs.{Inputs}
+use Rattle.sheet.proofs.Refusals.{accepted-each}
 use Rattle.lookup.proofs.Count.{room, filled}
 use Rattle.origin.specs.Answers.{decisionIf, decisionAnswer}
-use Rattle.origin.specs.declared.entries.Inputs.{Inputs}
 use Rattle.origin.specs.declared.entries.DecisionAnswer.the-variants.{Decided}
-use Rattle.origin.proofs.Decided.{accepted-sheet}
 use borrow.Author.Needs.{needs}
 use native.Mathlib.Omega.{arith}
 use Rattle.origin.proofs.entries.classify_with_provenance.Statement.{statement}
@@ -19,7 +19,7 @@ accepted : (c : tie.After-enum-told) → sheetCheck (c .before .before .before .
 accepted c =
     let d = c .before .before in
     let a = d .before .before .before .args in
-    accepted-sheet (a .word .now) (a .sheet .now) (sym (d .check-inputs .ensures) ∙ c .enum-told .given .1)
+    accepted-each (a .word .now) (a .sheet .now) (sym (d .check-inputs .ensures) ∙ c .enum-told .given .1) .1
 
 -- the starts stored are a front part of the list
 fits : (c : tie.After-fill-starts) → c .fill-starts .result ≤ length (c .fill-starts .last .1 .0)

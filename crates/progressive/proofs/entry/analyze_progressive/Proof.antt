@@ -1,63 +1,39 @@
--- `entry::analyze_progressive` meets its contract, answer by answer. Assumes nothing.
-use mathlib.Core.Path.{refl}
+-- `entry::analyze_progressive` meets its contract: the refusal, or what is found in the accepted sheet. Assumes nothing.
+use mathlib.Core.Path.{sym, _∙_}
 use borrow.Author.Needs.{needs}
-use Rattle.progressive.proofs.Entries.{by-word-check}
+use Rattle.sheet.proofs.Refusals.{accepted-each}
+use Rattle.progressive.proofs.Entries.{refused, given}
 use Rattle.progressive.proofs.entry.analyze_progressive.Statement.{statement}
 use Rattle.progressive.proofs.entry.analyze_progressive.Tie as tie
 
-check-word-requires : tie.Need-check-word-requires
-check-word-requires c κs = search needs
+check-inputs-requires : tie.Need-check-inputs-requires
+check-inputs-requires c κs = search needs
+
+enum-known-inputs : tie.Need-enum-known-inputs
+enum-known-inputs c = search needs
 
 enum-told : tie.Need-enum-told
 enum-told c = search needs
 
-enum-told-2 : tie.Need-enum-told-2
-enum-told-2 c = search needs
-
-enum-told-3 : tie.Need-enum-told-3
-enum-told-3 c = search needs
-
-enum-told-4 : tie.Need-enum-told-4
-enum-told-4 c = search needs
-
-by-sheet-requires : tie.Need-by-sheet-requires
-by-sheet-requires c κs = search needs
+indexed-requires : tie.Need-indexed-requires
+indexed-requires c κs =
+    let d = c .before .before in
+    let a = d .before .before .before .args in
+    accepted-each (a .word .now) (a .sheet .now) (sym (d .check-inputs .ensures) ∙ c .enum-told .given .1) .1
 
 returns : tie.Need-returns
 returns c =
-    let d = c .before .before in
+    let d = c .before .before .before in
     let a = d .before .before .before .args in
-    by-word-check (a .word .now) (a .sheet .now) _ _ _ (d .check-word .ensures) (c .enum-told .given .1) (record { settled = refl; reads = refl; lies = tt })
+    refused (a .word .now) (a .sheet .now) _ _ (d .check-inputs .ensures) (c .before .inputs .given .1)
 
 returns-2 : tie.Need-returns-2
 returns-2 c =
-    let d = c .before .before in
-    let a = d .before .before .before .args in
-    by-word-check (a .word .now) (a .sheet .now) _ _ _ (d .check-word .ensures) (c .enum-told2 .given .1) (record { settled = refl; reads = refl; lies = tt })
-
-returns-3 : tie.Need-returns-3
-returns-3 c =
-    let d = c .before .before in
-    let a = d .before .before .before .args in
-    by-word-check (a .word .now) (a .sheet .now) _ _ _ (d .check-word .ensures) (c .enum-told3 .given .1) (record { settled = refl; reads = refl; lies = tt })
-
-returns-4 : tie.Need-returns-4
-returns-4 c =
     let d = c .before .before .before in
     let a = d .before .before .before .args in
-    by-word-check (a .word .now) (a .sheet .now) _ _ _ (d .check-word .ensures) (c .before .enum-told4 .given .1) (c .by-sheet .ensures)
+    given (a .word .now) (a .sheet .now) _ _ (d .check-inputs .ensures) (c .before .enum-told .given .1) (c .indexed .ensures)
 
 pub analyze-progressive-spec : {M : Type 1} → statement M
 analyze-progressive-spec =
     tie.close
-    (tie.spec
-    check-word-requires
-    enum-told
-    enum-told-2
-    enum-told-3
-    enum-told-4
-    by-sheet-requires
-    returns
-    returns-2
-    returns-3
-    returns-4)
+    (tie.spec check-inputs-requires enum-known-inputs enum-told indexed-requires returns returns-2)

@@ -23,7 +23,7 @@ inside c =
     let d = c .before in
     let a = d .before .before .before .args in
     subst (λ (r : Progressive). r .«lemma_at» + r .«lemma_len» ≤ length (a .sheet .now)) (sym (c .form-of .ensures))
-    (given-inside (a .word .now) (a .sheet .now) (d .analyze-progressive .result) (d .analyze-progressive .ensures .answered .lies))
+    (given-inside (a .word .now) (a .sheet .now) (d .analyze-progressive .result) (d .analyze-progressive .ensures .lies))
 
 add-end : tie.Need-add-end
 add-end c = omega (arith, inside (c .before))
@@ -42,7 +42,7 @@ returns c =
     let f = c .before .before in
     let d = f .before in
     let a = d .before .before .before .args in
-    part-given (a .word .now) (a .sheet .now) (d .analyze-progressive .result) _ _ _ (d .analyze-progressive .ensures .answered) (f .form-of .ensures)
+    part-given (a .word .now) (a .sheet .now) (d .analyze-progressive .result) _ (d .analyze-progressive .ensures) (f .form-of .ensures)
 
 pub lemma-spec : {M : Type 1} → statement M
 lemma-spec =

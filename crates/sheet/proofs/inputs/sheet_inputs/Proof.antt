@@ -1,9 +1,9 @@
--- `entries::sheet_inputs` meets its contract, answer by answer. Assumes nothing.
+-- `inputs::sheet_inputs` meets its contract, answer by answer. Assumes nothing.
 use mathlib.Core.Path.{sym, ap, _∙_}
-use Rattle.origin.specs.Answers.{bySheet}
+use Rattle.sheet.specs.Inputs.{bySheet}
 use borrow.Author.Needs.{needs}
-use Rattle.origin.proofs.entries.sheet_inputs.Statement.{statement}
-use Rattle.origin.proofs.entries.sheet_inputs.Tie as tie
+use Rattle.sheet.proofs.inputs.sheet_inputs.Statement.{statement}
+use Rattle.sheet.proofs.inputs.sheet_inputs.Tie as tie
 
 check-sheet-requires : tie.Need-check-sheet-requires
 check-sheet-requires c κs = search needs

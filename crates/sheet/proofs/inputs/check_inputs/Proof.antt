@@ -1,11 +1,11 @@
--- `entries::check_inputs` meets its contract: a word's refusal, or what is said of the sheet. Assumes nothing.
+-- `inputs::check_inputs` meets its contract: a word's refusal, or what is said of the sheet. Assumes nothing.
 use mathlib.Core.Path.{sym, ap, _∙_}
 use Rattle.text.specs.declared.word.WordCheck.{WordCheck}
 use Rattle.sheet.specs.Lines.{sheetCheck}
-use Rattle.origin.specs.Answers.{bySheet, byWordThen, inputsOf}
+use Rattle.sheet.specs.Inputs.{bySheet, byWordThen, inputsOf}
 use borrow.Author.Needs.{needs}
-use Rattle.origin.proofs.entries.check_inputs.Statement.{statement}
-use Rattle.origin.proofs.entries.check_inputs.Tie as tie
+use Rattle.sheet.proofs.inputs.check_inputs.Statement.{statement}
+use Rattle.sheet.proofs.inputs.check_inputs.Tie as tie
 
 check-word-requires : tie.Need-check-word-requires
 check-word-requires c κs = search needs

@@ -1,0 +1,53 @@
+-- `exports::yunthirel_has_progressive` meets its contract, answer by answer: the place of a refusal is small enough. Assumes nothing.
+use borrow.Author.Needs.{needs}
+use mathlib.Core.Path.{sym, ap, _∙_}
+use mathlib.Core.Bool.{Bool}
+use Prim.Native.Nat.{ℕ}
+use Rattle.runs.specs.Runs.{pick}
+use Rattle.exports.specs.Codes.{supportedCode}
+use Rattle.exports.proofs.Bounds.{supported-refused}
+use Rattle.exports.proofs.yunthirel_has_progressive.Statement.{statement}
+use Rattle.exports.proofs.yunthirel_has_progressive.Tie as tie
+
+has-supported-progressive-form-requires : tie.Need-has-supported-progressive-form-requires
+has-supported-progressive-form-requires c κs = search needs
+
+enum-known-answer : tie.Need-enum-known-answer
+enum-known-answer c = search needs
+
+refusal-code-requires : tie.Need-refusal-code-requires
+refusal-code-requires c κs =
+    let d = c .before .before .before in
+    let a = d .before .before .before .args in
+    supported-refused (a .word .now) (a .sheet .now) _ _ (d .has-supported-progressive-form .ensures) (c .before .answer .given .1)
+
+enum-known-answer-2 : tie.Need-enum-known-answer-2
+enum-known-answer-2 c = search needs
+
+-- the number of a given answer
+abbrev number : Bool → ℕ
+number b = pick b 15 0
+
+returns : tie.Need-returns
+returns c =
+    ap number (sym (c .if1 .taken)) ∙ ap supportedCode (sym (c .before .before .answer2 .given .1) ∙ c .before .before .before .before .has-supported-progressive-form .ensures)
+
+returns-2 : tie.Need-returns-2
+returns-2 c =
+    c .refusal-code .ensures ∙ ap supportedCode (sym (c .before .before .answer .given .1) ∙ c .before .before .before .before .has-supported-progressive-form .ensures)
+
+returns-3 : tie.Need-returns-3
+returns-3 c =
+    ap number (sym (c .if1 .left)) ∙ ap supportedCode (sym (c .before .before .answer2 .given .1) ∙ c .before .before .before .before .has-supported-progressive-form .ensures)
+
+pub yunthirel-has-progressive-spec : {M : Type 1} → statement M
+yunthirel-has-progressive-spec =
+    tie.close
+    (tie.spec
+    has-supported-progressive-form-requires
+    enum-known-answer
+    refusal-code-requires
+    enum-known-answer-2
+    returns
+    returns-2
+    returns-3)
