@@ -3,3 +3,4 @@ pub mod Digits
 pub mod Labels
 pub mod Parted
 pub mod Worked
+pub mod Room

@@ -83,9 +83,9 @@ listingText w rs =
     ++ rowTexts w rs))
 
 -- the numbers that a refusal prints
-abbrev pub numbersOf : Refused → List ℕ
-numbersOf (Number n) = n ∷ []
-numbersOf (Line n start) = n ∷ start ∷ []
+abbrev pub refusedNumbers : Refused → List ℕ
+refusedNumbers (Number n) = n ∷ []
+refusedNumbers (Line n start) = n ∷ start ∷ []
 
 -- (refused N) or (refused N START), and 0A
 unfoldable pub refusedText : List ℕ → List ℕ
@@ -93,3 +93,10 @@ refusedText numbers =
     (40 ∷ 114 ∷ 101 ∷ 102 ∷ 117 ∷ 115 ∷ 101 ∷ 100 ∷ 32 ∷ [])  -- (refused
     ++ (parted (map decimal numbers)
     ++ (41 ∷ 10 ∷ []))  -- ) and 0A
+
+-- how long a row and a list can be, of a word that is not too long
+abbrev pub rowRoom : ℕ
+rowRoom = 554
+
+abbrev pub listingRoom : ℕ
+listingRoom = 35466

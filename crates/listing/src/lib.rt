@@ -3,9 +3,12 @@ use ranking::Listing;
 use rows::put_listing;
 use rows::put_refused;
 ghost use mathlib.Core.Path.{_≡_};
+ghost use Prim.Native.Nat.{_≤_};
+ghost use lib.ListN.{length};
+ghost use Rattle.text.specs.Word.{wordLimit};
 ghost use Rattle.ranking.specs.Lists.{rowsOf};
 ghost use Rattle.listing.specs.Placed.{writtenOf, filled};
-ghost use Rattle.listing.specs.Texts.{listingText, numbersOf, refusedText};
+ghost use Rattle.listing.specs.Texts.{listingText, refusedNumbers, refusedText, listingRoom};
 
 pub mod pieces;
 pub mod rows;
@@ -24,7 +27,7 @@ pub enum Refused {
 
 // Writes the text of a list of readings of the word at the front of `out`. Too short a buffer is left as it was.
 pub fn write_listing(word: &[u8], list: Listing, out: &mut [u8]) -> Written
-    ensures { λ r. ⌜ (r ≡ writtenOf (listingText (now (word .entry)) (rowsOf list)) (now (out .entry))) × (now (out .exit) ≡ filled (listingText (now (word .entry)) (rowsOf list)) (now (out .entry))) ⌝ }
+    ensures { λ r. ⌜ (r ≡ writtenOf (listingText (now (word .entry)) (rowsOf list)) (now (out .entry))) × (now (out .exit) ≡ filled (listingText (now (word .entry)) (rowsOf list)) (now (out .entry))) × (length (now (word .entry)) ≤ wordLimit → length (listingText (now (word .entry)) (rowsOf list)) ≤ listingRoom) ⌝ }
 {
     let mut none = [0u8; 0];
     let size = put_listing(&mut none, 0, word, list);
@@ -37,7 +40,7 @@ pub fn write_listing(word: &[u8], list: Listing, out: &mut [u8]) -> Written
 
 // Writes the line of a refusal at the front of `out`. Too short a buffer is left as it was.
 pub fn write_refused(refused: Refused, out: &mut [u8]) -> Written
-    ensures { λ r. ⌜ (r ≡ writtenOf (refusedText (numbersOf refused)) (now (out .entry))) × (now (out .exit) ≡ filled (refusedText (numbersOf refused)) (now (out .entry))) ⌝ }
+    ensures { λ r. ⌜ (r ≡ writtenOf (refusedText (refusedNumbers refused)) (now (out .entry))) × (now (out .exit) ≡ filled (refusedText (refusedNumbers refused)) (now (out .entry))) ⌝ }
 {
     let mut none = [0u8; 0];
     let n = put_refused(&mut none, 0, refused);

@@ -10,13 +10,14 @@ use ranking::Segment;
 use ranking::part_of;
 ghost use mathlib.Core.Path.{_≡_};
 ghost use mathlib.Core.List.{[], _∷_};
-ghost use Prim.Native.Nat.{_≤_, min};
-ghost use lib.ListN.{take};
+ghost use Prim.Native.Nat.{_*_, _≤_, min};
+ghost use lib.ListN.{length, take};
+ghost use Rattle.text.specs.Word.{wordLimit};
 ghost use Rattle.tables.specs.Tables.{Cuts, Laid, affixes};
 ghost use Rattle.tables.specs.Rows.{prefixLabels};
 ghost use Rattle.ranking.specs.Lists.{rowsOf};
 ghost use Rattle.listing.specs.Placed.{Wrote};
-ghost use Rattle.listing.specs.Texts.{gap, parted, kindText, segmentText, prefixTexts, segmentTexts, rowText, rowTexts, listingText, numbersOf, refusedText};
+ghost use Rattle.listing.specs.Texts.{gap, parted, kindText, segmentText, prefixTexts, segmentTexts, rowText, rowTexts, listingText, refusedNumbers, refusedText, rowRoom, listingRoom};
 ghost use Rattle.listing.specs.Labels.{labelAt};
 
 fn wide8(x: u8) -> usize
@@ -131,7 +132,7 @@ fn put_row(
     row: Reading,
 ) -> usize
     requires { ⌜ Laid prefixLabels (now labels) (now starts) × Laid affixes (now texts) (now cuts) ⌝ }
-    ensures { λ r. ⌜ Wrote (now (out .entry)) (now (out .exit)) at r (rowText (now (word .entry)) row) ⌝ }
+    ensures { λ r. ⌜ Wrote (now (out .entry)) (now (out .exit)) at r (rowText (now (word .entry)) row) × (length (now (word .entry)) ≤ wordLimit → length (rowText (now (word .entry)) row) ≤ rowRoom) ⌝ }
 {
     let root = wide16(row.root);
     let stem = wide16(row.stem);
@@ -161,7 +162,7 @@ fn put_rows(
     n: usize,
 ) -> usize
     requires { ⌜ Laid prefixLabels (now labels) (now starts) × Laid affixes (now texts) (now cuts) × (n ≤ 64) ⌝ }
-    ensures { λ r. ⌜ Wrote (now (out .entry)) (now (out .exit)) at r (rowTexts (now (word .entry)) (take n (list .rows))) ⌝ }
+    ensures { λ r. ⌜ Wrote (now (out .entry)) (now (out .exit)) at r (rowTexts (now (word .entry)) (take n (list .rows))) × (length (now (word .entry)) ≤ wordLimit → length (rowTexts (now (word .entry)) (take n (list .rows))) ≤ n * rowRoom) ⌝ }
 {
     let mut next = at;
     let mut i: usize = 0;
@@ -175,7 +176,7 @@ fn put_rows(
 
 // Puts a list: how many rows there are, then the rows.
 pub fn put_listing(out: &mut [u8], at: usize, word: &[u8], list: Listing) -> usize
-    ensures { λ r. ⌜ Wrote (now (out .entry)) (now (out .exit)) at r (listingText (now (word .entry)) (rowsOf list)) ⌝ }
+    ensures { λ r. ⌜ Wrote (now (out .entry)) (now (out .exit)) at r (listingText (now (word .entry)) (rowsOf list)) × (length (now (word .entry)) ≤ wordLimit → length (listingText (now (word .entry)) (rowsOf list)) ≤ listingRoom) ⌝ }
 {
     let labels = tables::prefix_labels();
     let starts = tables::prefix_label_starts();
@@ -190,7 +191,7 @@ pub fn put_listing(out: &mut [u8], at: usize, word: &[u8], list: Listing) -> usi
 
 // Puts a refusal: its number, and where a line is at fault the first byte of that line.
 pub fn put_refused(out: &mut [u8], at: usize, refused: Refused) -> usize
-    ensures { λ r. ⌜ Wrote (now (out .entry)) (now (out .exit)) at r (refusedText (numbersOf refused)) ⌝ }
+    ensures { λ r. ⌜ Wrote (now (out .entry)) (now (out .exit)) at r (refusedText (refusedNumbers refused)) ⌝ }
 {
     let a = put(out, at, b"(refused ");
     match refused {

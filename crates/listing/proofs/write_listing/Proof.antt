@@ -13,18 +13,20 @@ put-listing-requires : tie.Need-put-listing-requires
 put-listing-requires c κs = tt
 
 returns : tie.Need-returns
-returns c = written-not (c .before .before .put-listing .ensures) (c .if1 .taken)
+returns c = let p = c .before .before in let w = written-not (p .put-listing .ensures .0) (c .if1 .taken) in (w .0, w .1, p .put-listing .ensures .1)
 
 put-listing-requires-2 : tie.Need-put-listing-requires-2
 put-listing-requires-2 c κs = tt
 
 same-length : tie.Need-same-length
-same-length c = search needs
+same-length c = c .before .before .put-listing2 .ensures .0 .size
 
 returns-2 : tie.Need-returns-2
 returns-2 c =
     let e = c .before .before .before .before in
-    written-whole (e .before .before .put-listing .ensures) (e .if1 .left) (omega arith) (c .before .before .put-listing2 .ensures)
+    let p = e .before .before in
+    let w = written-whole (p .put-listing .ensures .0) (e .if1 .left) (omega arith) (c .before .before .put-listing2 .ensures .0) in
+    (w .0, w .1, p .put-listing .ensures .1)
 
 pub write-listing-spec : {M : Type 1} → statement M
 write-listing-spec =

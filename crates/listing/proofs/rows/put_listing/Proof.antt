@@ -1,14 +1,17 @@
 -- `rows::put_listing` meets its contract: the rows that the count allows are the first 64 at most. Assumes nothing.
-use Prim.Native.Nat.{ℕ, min}
+use Prim.Native.Nat.{ℕ, _*_, _≤_, min}
 use native.Mathlib.Omega.{arith}
-use mathlib.Core.Path.{_≡_, refl, sym, ap, _∙_}
+use mathlib.Core.Path.{_≡_, refl, sym, ap, subst, _∙_}
+use mathlib.Core.List.{List}
 use lib.ListN.{length, take, length-map}
 use lib.Seq.{length-take-le}
 use Rattle.listing.specs.Decimal.{decimal}
-use Rattle.listing.specs.Texts.{rowTexts, listingText}
+use Rattle.listing.specs.Texts.{rowTexts, listingText, rowRoom}
 use Rattle.listing.proofs.Puts.{put-both, put-as}
 use Rattle.listing.proofs.Parted.{take-least}
 use borrow.Author.Needs.{needs}
+use Rattle.ranking.specs.declared.Reading.{Reading}
+use Rattle.listing.proofs.Room.{listing-size}
 use Rattle.listing.proofs.rows.put_listing.Statement.{statement}
 use Rattle.listing.proofs.rows.put_listing.Tie as tie
 
@@ -66,17 +69,20 @@ returns c =
     let p1 = p2 .before .before .before .before in
     let n = p1 .before .before .before in
     let b = n .before .before .before .before .before .before .before in
+    let w = b .args .word .now in
     let rs = b .args .list .rows in
     let l : length rs ≡ 64 = simp length-map at (b .good .1 .1 .1 .0 .1 .1 .0 .1 .0 .1) in
     let e : take (n .least .result) rs ≡ take (b .args .list .count) rs =
     ap (λ (m : ℕ). take m rs) (n .least .ensures) ∙ sym (take-least (b .args .list .count) 64 rs l) in
-    let k : n .least .result ≡ length (take (b .args .list .count) rs) = sym (length-take-le (n .least .result) rs (omega arith)) ∙ ap length e in
-    put-both (p1 .put .ensures)
-    (put-both (put-as (ap decimal k) (p2 .put-decimal .ensures))
-    (put-both (p3 .put2 .ensures) (put-as (ap (rowTexts (b .args .word .now)) e) (p4 .put-rows .ensures))))
+    let k : n .least .result ≡ length (take (b .args .list .count) rs) = sym (length-take-le (n .least .result) rs (omega arith)) ∙ ap length e in (
+      put-both (p1 .put .ensures)
+          (put-both (put-as (ap decimal k) (p2 .put-decimal .ensures))
+          (put-both (p3 .put2 .ensures) (put-as (ap (rowTexts (b .args .word .now)) e) (p4 .put-rows .ensures .0)))),
+      λ h. listing-size w (take (b .args .list .count) rs) (n .least .result) (omega arith) k (subst (λ (l : List Reading). length (rowTexts w l) ≤ n .least .result * rowRoom) e (p4 .put-rows .ensures .1 h)),
+    )
 
 same-length : tie.Need-same-length
-same-length c = returns c .size
+same-length c = returns c .0 .size
 
 pub put-listing-spec : {M : Type 1} → statement M
 put-listing-spec =

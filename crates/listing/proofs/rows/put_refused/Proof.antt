@@ -3,7 +3,7 @@ use Prim.Native.Nat.{ℕ}
 use mathlib.Core.Path.{_≡_, refl, sym, ap, _∙_}
 use mathlib.Core.List.{List, [], _∷_, _++_, append-nil, append-assoc}
 use Rattle.listing.specs.Decimal.{decimal}
-use Rattle.listing.specs.Texts.{numbersOf, refusedText}
+use Rattle.listing.specs.Texts.{refusedNumbers, refusedText}
 use Rattle.listing.specs.declared.Refused.{Refused}
 use Rattle.listing.proofs.Puts.{put-both, put-as}
 use borrow.Author.Needs.{needs}
@@ -71,7 +71,7 @@ returns c =
     let p3 = c .before .before in
     let p2 = p3 .before .before .before .before .before in
     let p1 = p2 .before .before .before .before .before .before .before in
-    put-as (sym (ap (λ (r : Refused). refusedText (numbersOf r)) (p2 .before .before .before .refused .given .1) ∙ one-number _))
+    put-as (sym (ap (λ (r : Refused). refusedText (refusedNumbers r)) (p2 .before .before .before .refused .given .1) ∙ one-number _))
     (put-both (p1 .put .ensures) (put-both (p2 .put-decimal .ensures) (p3 .put2 .ensures)))
 
 same-length : tie.Need-same-length
@@ -84,7 +84,7 @@ returns-2 c =
     let p3 = p4 .before .before .before .before in
     let p2 = p3 .before .before .before .before .before in
     let p1 = p2 .before .before .before .before .before .before .before in
-    put-as (sym (ap (λ (r : Refused). refusedText (numbersOf r)) (p2 .before .before .before .refused2 .given .1) ∙ two-numbers _ _))
+    put-as (sym (ap (λ (r : Refused). refusedText (refusedNumbers r)) (p2 .before .before .before .refused2 .given .1) ∙ two-numbers _ _))
     (put-both (p1 .put .ensures)
     (put-both (p2 .put-decimal2 .ensures) (put-both (p3 .put3 .ensures) (put-both (p4 .put-decimal3 .ensures) (p5 .put4 .ensures)))))
 

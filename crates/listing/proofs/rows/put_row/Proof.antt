@@ -1,10 +1,14 @@
 -- `rows::put_row` meets its contract: eleven texts, one after the other. Assumes nothing.
-use mathlib.Core.Path.{refl, ap, _∙_}
+use mathlib.Core.Path.{_≡_, refl, ap, _∙_}
+use native.Mathlib.Omega.{arith}
+use Prim.Native.Nat.{_<_}
+use lib.ListN.{length, length-map}
 use Rattle.ranking.specs.Parts.{part}
 use Rattle.listing.specs.Decimal.{decimal}
 use Rattle.listing.specs.Texts.{rowText}
 use Rattle.listing.proofs.Puts.{put-both, put-as}
 use Rattle.listing.proofs.Parted.{same-part}
+use Rattle.listing.proofs.Room.{reading-size}
 use Rattle.listing.proofs.rows.put_row.Statement.{statement}
 use Rattle.listing.proofs.rows.put_row.Tie as tie
 
@@ -98,20 +102,26 @@ returns c =
     let w = begun p1 .args .word .now in
     let stem = p1 .before .before .before .wide162 .ensures in
     let root = p1 .before .before .before .before .wide16 .ensures in
-    put-both (p1 .put .ensures)
-    (put-both (put-as (p2 .before .part-of .ensures ∙ same-part w refl stem) (p2 .put2 .ensures))
-    (put-both (p3 .put3 .ensures)
-    (put-both (put-as (p4 .before .part-of2 .ensures ∙ same-part w root stem) (p4 .put4 .ensures))
-    (put-both (p5 .put5 .ensures)
-    (put-both (p6 .put-prefixes .ensures)
-    (put-both (p7 .put6 .ensures)
-    (put-both (p8 .put-segments .ensures)
-    (put-both (p9 .put7 .ensures)
-    (put-both (put-as (ap decimal (p10 .before .wide163 .ensures)) (p10 .put-decimal .ensures))
-    (p11 .put8 .ensures))))))))))
+    let r = begun p1 .args .row in
+    let g = begun p1 .good .1 .1 .1 .1 .1 .1 .1 .0 .1 .1 in
+    let p : length (r .prefixes) ≡ 2 = simp length-map at (g .1 .1 .1 .0 .1 .0 .1) in
+    let q : length (r .segments) ≡ 4 = simp length-map at (g .1 .1 .1 .1 .0 .1 .0 .1) in (
+      put-both (p1 .put .ensures)
+          (put-both (put-as (p2 .before .part-of .ensures ∙ same-part w refl stem) (p2 .put2 .ensures))
+          (put-both (p3 .put3 .ensures)
+          (put-both (put-as (p4 .before .part-of2 .ensures ∙ same-part w root stem) (p4 .put4 .ensures))
+          (put-both (p5 .put5 .ensures)
+          (put-both (p6 .put-prefixes .ensures)
+          (put-both (p7 .put6 .ensures)
+          (put-both (p8 .put-segments .ensures)
+          (put-both (p9 .put7 .ensures)
+          (put-both (put-as (ap decimal (p10 .before .wide163 .ensures)) (p10 .put-decimal .ensures))
+          (p11 .put8 .ensures)))))))))),
+      λ h. reading-size w r h p q (omega arith),
+    )
 
 same-length : tie.Need-same-length
-same-length c = returns c .size
+same-length c = returns c .0 .size
 
 pub put-row-spec : {M : Type 1} → statement M
 put-row-spec =
