@@ -2,3 +2,4 @@ pub mod Decimal
 pub mod Placed
 pub mod Texts
 pub mod Labels
+pub mod Printed

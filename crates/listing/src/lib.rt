@@ -10,6 +10,7 @@ ghost use Rattle.ranking.specs.Lists.{rowsOf};
 ghost use Rattle.listing.specs.Placed.{writtenOf, filled};
 ghost use Rattle.listing.specs.Texts.{listingText, refusedNumbers, refusedText, listingRoom};
 
+pub mod entry;
 pub mod pieces;
 pub mod rows;
 
