@@ -4,3 +4,4 @@ pub mod Added
 pub mod Cuts
 pub mod Turns
 pub mod Strips
+pub mod Accepted

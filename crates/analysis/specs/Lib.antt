@@ -1,2 +1,3 @@
 pub mod Supports
 pub mod Places
+pub mod Answers

@@ -1,4 +1,5 @@
 // Readings of a word: what the strip rules allow and the sheet supports.
+pub mod entry;
 pub mod prefixes;
 pub mod roots;
 pub mod suffixes;

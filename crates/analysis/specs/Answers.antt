@@ -1,0 +1,77 @@
+-- What the core call and the two beside it hand back (document 01, "What an entry hands back"): the refusals of word and sheet, then 7
+-- for more than 64 readings, else the list. Assumes nothing.
+use Prim.Native.Nat.{ℕ}
+use mathlib.Core.Bool.{Bool, true, false}
+use mathlib.Core.List.{List, [], _∷_}
+use Rattle.runs.specs.Runs.{pick}
+use Rattle.text.specs.Characters.{chars}
+use Rattle.sheet.specs.Inputs.{inputsOf, numbersOf}
+use Rattle.sheet.specs.Replies.{reply}
+use Rattle.sheet.specs.declared.inputs.Inputs.{Inputs}
+use Rattle.sheet.specs.declared.inputs.Inputs.the-variants as inputs
+use Rattle.ranking.specs.Lists.{Rows, rows, over, plusAll}
+use Rattle.ranking.specs.declared.Reading.{Reading}
+use Rattle.paths.specs.Walk.{wordWalk}
+use Rattle.analysis.specs.declared.entry.Said.{Said}
+use Rattle.analysis.specs.declared.entry.Said.the-variants.{Listed, Refused, TooMany}
+use Rattle.analysis.specs.declared.entry.Best.{Best}
+use Rattle.analysis.specs.declared.entry.Has.{Has}
+use Rattle.analysis.specs.declared.entry.Has.the-variants as has
+
+-- all readings of w under the sheet s, in rank order, or that there are more than 64
+abbrev pub collected : List ℕ → List ℕ → Rows
+collected w s = plusAll w (rows []) (wordWalk (reply s) (chars w) w)
+
+abbrev pub byRows : Rows → Said
+byRows (rows rs) = Listed
+byRows over = TooMany
+
+abbrev pub listedRows : Rows → List Reading
+listedRows (rows rs) = rs
+listedRows over = []
+
+-- what is said, by what is said of word and sheet together, and of what has been collected
+abbrev pub saidBy : Inputs → Rows → Said
+saidBy inputs.Accepted c = byRows c
+saidBy (inputs.Refused r) c = Refused r
+
+abbrev pub rowsBy : Inputs → Rows → List Reading
+rowsBy inputs.Accepted c = listedRows c
+rowsBy (inputs.Refused r) c = []
+
+-- what is said of the word w and the sheet s
+unfoldable pub saidOf : List ℕ → List ℕ → Said
+saidOf w s = saidBy (inputsOf w s) (collected w s)
+
+-- the rows of the list: those collected where word and sheet are accepted, else none
+unfoldable pub rowsGiven : List ℕ → List ℕ → List Reading
+rowsGiven w s = rowsBy (inputsOf w s) (collected w s)
+
+-- document 01's number of each answer, for 5 and 6 with the faulty line's first byte; none where the list is given
+abbrev pub saidNumbers : Said → List ℕ
+saidNumbers Listed = []
+saidNumbers (Refused r) = numbersOf r
+saidNumbers TooMany = 7 ∷ []
+
+-- the reading that such an answer holds, one or none
+abbrev pub bestRows : Best → List Reading
+bestRows b = pick (b .some) (b .reading ∷ []) []
+
+-- whether there is one among the rows given
+abbrev pub isSome : List Reading → Bool
+isSome [] = false
+isSome (r ∷ rs) = true
+
+abbrev pub hasBy : Said → Bool → Has
+hasBy Listed b = has.Given b
+hasBy (Refused r) b = has.Refused r
+hasBy TooMany b = has.TooMany
+
+unfoldable pub hasOf : List ℕ → List ℕ → Has
+hasOf w s = hasBy (saidOf w s) (isSome (rowsGiven w s))
+
+-- document 01's number of each answer, none where one is given
+abbrev pub hasNumbers : Has → List ℕ
+hasNumbers (has.Given b) = []
+hasNumbers (has.Refused r) = numbersOf r
+hasNumbers has.TooMany = 7 ∷ []

@@ -1,0 +1,162 @@
+// The core call and the two beside it: a word and a sheet lent, each tested before anything is asked, the list by value.
+use crate::suffixes::visit;
+use lookup::starts::Start;
+use lookup::starts::fill_starts;
+use paths::Chain;
+use ranking::AffixKind;
+use ranking::Found;
+use ranking::Listing;
+use ranking::Reading;
+use ranking::Segment;
+use ranking::nothing;
+use sheet::inputs::Inputs;
+use sheet::inputs::Refusal;
+use sheet::inputs::check_inputs;
+ghost use mathlib.Core.Path.{_≡_};
+ghost use mathlib.Core.List.{[], _∷_};
+ghost use lib.ListN.{take};
+ghost use lib.Dec.{ltb};
+ghost use Rattle.runs.specs.Runs.{pick};
+ghost use Rattle.text.specs.Word.{wordCheck};
+ghost use Rattle.text.specs.declared.word.WordCheck.the-variants.{Accepted};
+ghost use Rattle.sheet.specs.Lines.{sheetCheck};
+ghost use Rattle.sheet.specs.declared.check.SheetCheck.the-variants.{Accepted as SheetAccepted};
+ghost use Rattle.ranking.specs.Lists.{foundOf, rowsOf};
+ghost use Rattle.analysis.specs.Answers.{collected, byRows, listedRows, saidOf, rowsGiven, bestRows, hasOf};
+
+// What is said beside the list: it is given; word or sheet is refused; there are more than 64 readings. `saidNumbers` gives document
+// 01's number of each.
+pub enum Said {
+    Listed,
+    Refused(Refusal),
+    TooMany,
+}
+
+// The list of readings, empty after a refusal, and what is said of it.
+pub struct Analysis {
+    pub said: Said,
+    pub list: Listing,
+}
+
+// The answer of `best_analysis`: what is said as of the list, whether there is a reading, and the first one.
+pub struct Best {
+    pub said: Said,
+    pub some: bool,
+    pub reading: Reading,
+}
+
+// The answer of `has_supported_analysis`.
+pub enum Has {
+    Refused(Refusal),
+    TooMany,
+    Given(bool),
+}
+
+// Nothing listed, with what is said of it.
+fn refused(said: Said) -> Analysis
+    ensures { λ r. ⌜ (r .said ≡ said) × (rowsOf (r .list) ≡ []) ⌝ }
+{
+    let none = nothing();
+    let list = none.list;
+    Analysis { said, list }
+}
+
+// All readings of an accepted word under an accepted sheet, or that there are more than 64.
+fn collect(word: &[u8], sheet: &[u8]) -> Found
+    requires { ⌜ (wordCheck (now word) ≡ Accepted) × (sheetCheck (now sheet) ≡ SheetAccepted) ⌝ }
+    ensures { λ r. ⌜ foundOf r ≡ collected (now (word .entry)) (now (sheet .entry)) ⌝ }
+{
+    let mut starts: [Start; 6554] = [0; 6554];
+    let n = fill_starts(sheet, &mut starts);
+    let texts = tables::affixes();
+    let cuts = tables::affix_starts();
+    let forms = tables::prefix_forms();
+    let form_cuts = tables::prefix_form_starts();
+    let surface = text::characters::count(word) as u16;
+    let blank = Segment {
+        label: 0,
+        kind: AffixKind::Particle,
+    };
+    let chain = Chain {
+        segments: [blank; 4],
+        count: 0,
+    };
+    visit(
+        word,
+        sheet,
+        &starts[..n],
+        &texts,
+        &cuts,
+        &forms,
+        &form_cuts,
+        word.len(),
+        chain,
+        25,
+        surface,
+        nothing(),
+    )
+}
+
+// What is given where word and sheet are accepted: the list, or that there are too many.
+fn listed(word: &[u8], sheet: &[u8]) -> Analysis
+    requires { ⌜ (wordCheck (now word) ≡ Accepted) × (sheetCheck (now sheet) ≡ SheetAccepted) ⌝ }
+    ensures { λ r. ⌜ (r .said ≡ byRows (collected (now (word .entry)) (now (sheet .entry)))) × (rowsOf (r .list) ≡ listedRows (collected (now (word .entry)) (now (sheet .entry)))) ⌝ }
+{
+    let found = collect(word, sheet);
+    if found.over {
+        return refused(Said::TooMany);
+    }
+    let list = found.list;
+    Analysis {
+        said: Said::Listed,
+        list,
+    }
+}
+
+// The core call: every reading of the word that the sheet supports, each once, in rank order; or why there is none: the lowest
+// number that applies.
+pub fn analyze_affixes(word: &[u8], sheet: &[u8]) -> Analysis
+    ensures { λ r. ⌜ (r .said ≡ saidOf (now (word .entry)) (now (sheet .entry))) × (rowsOf (r .list) ≡ rowsGiven (now (word .entry)) (now (sheet .entry))) ⌝ }
+{
+    let inputs = check_inputs(word, sheet);
+    match inputs {
+        Inputs::Refused(refusal) => refused(Said::Refused(refusal)),
+        Inputs::Accepted => listed(word, sheet),
+    }
+}
+
+// The first reading of a list. Free: the reading of an empty list.
+fn first_of(list: Listing) -> Reading
+    ensures { λ r. ⌜ pick (ltb 0 (list .count)) (r ∷ []) [] ≡ take 1 (rowsOf list) ⌝ }
+{
+    list.rows[0]
+}
+
+// The reading that comes first by rank. Free: the reading where there is none.
+pub fn best_analysis(word: &[u8], sheet: &[u8]) -> Best
+    ensures { λ r. ⌜ (r .said ≡ saidOf (now (word .entry)) (now (sheet .entry))) × (bestRows r ≡ take 1 (rowsGiven (now (word .entry)) (now (sheet .entry)))) ⌝ }
+{
+    let analysis = analyze_affixes(word, sheet);
+    let said = analysis.said;
+    let list = analysis.list;
+    let reading = first_of(list);
+    Best {
+        said,
+        some: 0 < list.count,
+        reading,
+    }
+}
+
+// Whether the word has a reading.
+pub fn has_supported_analysis(word: &[u8], sheet: &[u8]) -> Has
+    ensures { λ r. ⌜ r ≡ hasOf (now (word .entry)) (now (sheet .entry)) ⌝ }
+{
+    let best = best_analysis(word, sheet);
+    let said = best.said;
+    let some = best.some;
+    match said {
+        Said::Refused(refusal) => Has::Refused(refusal),
+        Said::TooMany => Has::TooMany,
+        Said::Listed => Has::Given(some),
+    }
+}
