@@ -5,3 +5,4 @@ pub mod Cuts
 pub mod Turns
 pub mod Strips
 pub mod Accepted
+pub mod Promises

@@ -1,9 +1,9 @@
 -- What a part of the sheet that holds a lemma says of the lemma, and how the search goes from name to name.
--- The proofs of `verb_at`, `regular_lemma`, `supported_infinitive` and `find_progressive` cite it. Assumes nothing.
+-- The proofs of `verb_at`, `regular_lemma`, `linked_verb`, `supported_infinitive` and `find_progressive` cite it. Assumes nothing.
 use mathlib.Core.Path.{_≡_, refl, sym, ap, _∙_}
 use mathlib.Core.Bool.{Bool, true, false, _||_}
-use mathlib.Core.List.{List, [], _∷_, _++_}
-use Prim.Native.Nat.{ℕ}
+use mathlib.Core.List.{List, [], _∷_, _++_, append-nil}
+use Prim.Native.Nat.{ℕ, _+_, _-_}
 use native.Mathlib.Omega.{arith}
 use lib.ListN.{length, take, drop}
 use lib.Dec.{eqb}
@@ -13,7 +13,7 @@ use Rattle.sheet.specs.Forms.{syllableNu}
 use Rattle.sheet.specs.Replies.{Reply, reply, lettersTold}
 use Rattle.lookup.specs.declared.answers.Spot.{Spot}
 use Rattle.lookup.specs.Answers.{textAt, noSpot, named, NameOf}
-use Rattle.progressive.specs.Progressive.{virama, signAA, letterAA, letterU, isVerb, Lemma, none, lemma, verbOr, regular, decided, lemmaOf}
+use Rattle.progressive.specs.Progressive.{virama, signAA, letterAA, letterU, isVerb, Lemma, none, lemma, verbOr, regular, verbTold, decided, lemmaOf}
 use Rattle.progressive.specs.Found.{LemmaAt, nameAt}
 
 module _ (s : List ℕ) (r : Spot) where
@@ -66,6 +66,17 @@ module _ (s : List ℕ) where
 
   pub not-verb : (name : List ℕ) → isVerb (reply s) name ≡ false → LemmaAt s (verbOr (reply s) name none) noSpot
   not-verb name e = no-lemma _ (ap (λ (b : Bool). pick b (lemma name) none) e)
+
+  -- the verb that a link line names, by whether there is a line
+  pub untold : (r : Spot) → r .found ≡ false → verbTold (reply s) (textAt s r) ≡ none
+  untold r e = rw e
+
+  pub told-verb : (r : Spot) → r .found ≡ true →
+      verbOr (reply s) (take (r .at + r .len - r .at) (drop (r .at) s) ++ []) none ≡ verbTold (reply s) (textAt s r)
+  told-verb r e =
+      let p : r .at + r .len - r .at ≡ r .len = omega arith in
+      ap (λ (n : List ℕ). verbOr (reply s) n none) (append-nil _ ∙ ap (λ (n : ℕ). take n (drop (r .at) s)) p)
+      ∙ ap (λ (b : Bool). verbTold (reply s) (pick b (Reply.told (take (r .len) (drop (r .at) s))) Reply.unknown)) (sym e)
 
 module _ (s linked stem : List ℕ) where
   -- what is left of the search after stem+नु, after stem+्नु and after stem+उनु
@@ -124,3 +135,10 @@ module _ (s linked stem : List ℕ) where
   pub by-reply : (a : Reply) → a ≡ reply s 0x6C linked → (length stem ≡ 0 → ⊥) → endsIn virama stem ≡ false →
       lemmaOf (reply s) linked stem ≡ decided (reply s) linked stem a
   by-reply a q h e = whole-stem h e ∙ ap (decided (reply s) linked stem) (sym q)
+
+  -- a link line that was found decides alone, and the search goes on where there is none
+  pub linked-found : (r : Spot) → r .found ≡ true → verbTold (reply s) (textAt s r) ≡ decided (reply s) linked stem (textAt s r)
+  linked-found r e = rw e
+
+  pub linked-next : (r : Spot) → r .found ≡ false → regular (reply s) linked stem ≡ decided (reply s) linked stem (textAt s r)
+  linked-next r e = rw e

@@ -63,6 +63,11 @@ regular ask linked stem =
     (verbOr ask (stem ++ (letterU ++ syllableNu)) (verbOr ask (linked ++ syllableNu) none))
     (verbOr ask (linked ++ syllableNu) none)))
 
+-- the infinitive that a link line names, where it is a verb
+abbrev pub verbTold : Ask → Reply → Lemma
+verbTold ask (told infinitive) = verbOr ask infinitive none
+verbTold ask unknown = none
+
 -- if the linked form has a link line, its infinitive decides alone
 abbrev pub decided : Ask → List ℕ → List ℕ → Reply → Lemma
 decided ask linked stem (told infinitive) = verbOr ask infinitive none

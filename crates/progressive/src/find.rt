@@ -3,9 +3,12 @@
 ghost use mathlib.Core.Path.{_≡_};
 ghost use mathlib.Core.Bool.{_||_};
 ghost use mathlib.Core.List.{_++_};
+ghost use Prim.Native.Nat.{_+_, _≤_};
+ghost use lib.ListN.{length};
 ghost use Rattle.runs.specs.Runs.{endsIn};
 ghost use Rattle.sheet.specs.Replies.{reply, Indexed};
-ghost use Rattle.progressive.specs.Progressive.{signAA, letterAA, isVerb, none, verbOr, regular, lemmaOf, isShaped, isProgressive};
+ghost use Rattle.lookup.specs.Answers.{textAt};
+ghost use Rattle.progressive.specs.Progressive.{signAA, letterAA, isVerb, none, verbOr, regular, verbTold, lemmaOf, isShaped, isProgressive};
 ghost use Rattle.progressive.specs.Found.{endsInRahek, LemmaAt, noForm, formWith, FormAt};
 use lookup::answers::Spot;
 use lookup::answers::letters_of;
@@ -82,6 +85,23 @@ fn regular_lemma(sheet: &[u8], starts: &[Start], linked: &[u8], stem: &[u8]) -> 
     verb_at(sheet, starts, linked, b"\xE0\xA4\xA8\xE0\xA5\x81")
 }
 
+// Where the infinitive that a link line names stands, if it is a verb. `link` is the infinitive's part of the line, if there is one.
+fn linked_verb(sheet: &[u8], starts: &[Start], link: Spot) -> Spot
+    requires { ⌜ Indexed (now sheet) (now starts) × (link .at + link .len ≤ length (now sheet)) ⌝ }
+    ensures { λ r. ⌜ LemmaAt (now (sheet .entry)) (verbTold (reply (now (sheet .entry))) (textAt (now (sheet .entry)) link)) r ⌝ }
+{
+    if !link.found {
+        return Spot {
+            found: false,
+            at: 0,
+            len: 0,
+        };
+    }
+    let at = link.at;
+    let end = at + link.len;
+    verb_at(sheet, starts, &sheet[at..end], b"")
+}
+
 // The lemma of a linked form and its stem. A link line decides alone, so that no verb of like spelling takes its place.
 fn supported_infinitive(sheet: &[u8], starts: &[Start], linked: &[u8], stem: &[u8]) -> Spot
     requires { ⌜ Indexed (now sheet) (now starts) ⌝ }
@@ -102,12 +122,11 @@ fn supported_infinitive(sheet: &[u8], starts: &[Start], linked: &[u8], stem: &[u
         };
     }
     let link = link_of(sheet, starts, linked);
-    if !link.found {
-        return regular_lemma(sheet, starts, linked, stem);
+    let named = linked_verb(sheet, starts, link);
+    if link.found {
+        return named;
     }
-    let at = link.at;
-    let end = at + link.len;
-    verb_at(sheet, starts, &sheet[at..end], b"")
+    regular_lemma(sheet, starts, linked, stem)
 }
 
 // Whether the word ends in रहेको, रहेकी or रहेका.

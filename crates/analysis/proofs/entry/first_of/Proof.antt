@@ -14,7 +14,7 @@ element-copy-out-result c = search needs
 returns : tie.Need-returns
 returns c =
     let l = c .before .args .t1 in
-    let n : length (l .rows) ≡ 64 = simp length-map at (c .before .good .0 .1 .0 .1) in
+    let n : length (l .rows) ≡ 64 = simp length-map at (c .before .good .0 .1 .1 .0 .1 .0 .1) in
     first-row (l .rows) (l .count) _ (omega arith)
 
 pub first-of-spec : {M : Type 1} → statement M

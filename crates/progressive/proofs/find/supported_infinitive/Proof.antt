@@ -1,16 +1,13 @@
 -- `find::supported_infinitive` meets its contract: an empty stem and one that ends in ् have none, a link line decides alone. Assumes nothing.
-use mathlib.Core.Path.{_≡_, sym, ap, _∙_, subst}
+use mathlib.Core.Path.{_≡_, sym, _∙_, subst}
 use mathlib.Core.Bool.{false}
-use mathlib.Core.List.{List, append-nil}
-use Prim.Native.Nat.{ℕ}
 use borrow.Author.Needs.{needs}
-use borrow.Author.Tests.{not-true, not-false}
 use Rattle.runs.specs.Runs.{endsIn}
 use Rattle.sheet.specs.Replies.{reply}
-use Rattle.lookup.proofs.Parts.{unread, read}
-use Rattle.progressive.specs.Progressive.{virama, Lemma, none, verbOr}
+use Rattle.lookup.specs.Answers.{textAt}
+use Rattle.progressive.specs.Progressive.{virama, Lemma, decided, lemmaOf}
 use Rattle.progressive.specs.Found.{LemmaAt}
-use Rattle.progressive.proofs.Verbs.{no-lemma, empty-stem, bare-stem, by-reply}
+use Rattle.progressive.proofs.Verbs.{no-lemma, empty-stem, bare-stem, by-reply, linked-found, linked-next}
 use Rattle.progressive.proofs.find.supported_infinitive.Statement.{statement}
 use Rattle.progressive.proofs.find.supported_infinitive.Tie as tie
 
@@ -35,52 +32,44 @@ returns-2 c =
 link-of-requires : tie.Need-link-of-requires
 link-of-requires c κs = search needs
 
-regular-lemma-requires : tie.Need-regular-lemma-requires
-regular-lemma-requires c κs = search needs
+linked-verb-requires : tie.Need-linked-verb-requires
+linked-verb-requires c κs = search needs
 
 -- the stem does not end in ्
 whole : (c : tie.Else2) → endsIn virama (c .before .before .before .before .before .before .before .before .args .stem .now) ≡ false
 whole c = sym (c .before .ends-with .ensures) ∙ c .if2 .left
 
-returns-3 : tie.Need-returns-3
-returns-3 c =
-    let t = c .before in
-    let l = t .before .before in
-    let b = l .before in
+-- what decides, by what was found of a link line
+decides : (c : tie.After-link-of) →
+    let a = c .before .before .before .before .before .before .before .before .before .args in
+    lemmaOf (reply (a .sheet .now)) (a .linked .now) (a .stem .now)
+    ≡ decided (reply (a .sheet .now)) (a .linked .now) (a .stem .now) (textAt (a .sheet .now) (c .link-of .result))
+decides c =
+    let b = c .before in
     let d = b .before .before .before in
     let a = d .before .before .before .before .before .args in
+    by-reply (a .sheet .now) (a .linked .now) (a .stem .now) _ (c .link-of .ensures .reads) (d .if1 .left) (whole b)
+
+returns-3 : tie.Need-returns-3
+returns-3 c =
+    let n = c .before in
+    let l = n .before in
+    let a = l .before .before .before .before .before .before .before .before .before .args in
     let s = a .sheet .now in
-    let e = by-reply s (a .linked .now) (a .stem .now) _ (unread s 0x6C (a .linked .now) _ (l .link-of .ensures) (not-true _ (t .if3 .taken))) (d .if1 .left) (whole b) in
-    subst (λ (m : Lemma). LemmaAt s m (c .regular-lemma .result)) (sym e) (c .regular-lemma .ensures)
+    subst (λ (m : Lemma). LemmaAt s m (n .linked-verb .result))
+    (linked-found s (a .linked .now) (a .stem .now) (l .link-of .result) (c .if3 .taken) ∙ sym (decides l)) (n .linked-verb .ensures)
 
-add-end : tie.Need-add-end
-add-end c = search needs
-
-sub-verb-at : tie.Need-sub-verb-at
-sub-verb-at c = search needs
-
-part-verb-at-start : tie.Need-part-verb-at-start
-part-verb-at-start c = search needs
-
-part-verb-at-end : tie.Need-part-verb-at-end
-part-verb-at-end c = search needs
-
-slice-aggregate-verb-at : tie.Need-slice-aggregate-verb-at
-slice-aggregate-verb-at c = search needs
-
-verb-at-requires : tie.Need-verb-at-requires
-verb-at-requires c κs = search needs
+regular-lemma-requires : tie.Need-regular-lemma-requires
+regular-lemma-requires c κs = search needs
 
 returns-4 : tie.Need-returns-4
 returns-4 c =
-    let t = c .before .before .before .before in
-    let l = t .before .before in
-    let b = l .before in
-    let d = b .before .before .before in
-    let a = d .before .before .before .before .before .args in
+    let e = c .before in
+    let l = e .before .before in
+    let a = l .before .before .before .before .before .before .before .before .before .args in
     let s = a .sheet .now in
-    let e = by-reply s (a .linked .now) (a .stem .now) _ (read s 0x6C (a .linked .now) _ (l .link-of .ensures) (not-false _ (t .if3 .left))) (d .if1 .left) (whole b) in
-    subst (λ (m : Lemma). LemmaAt s m (c .verb-at .result)) (ap (λ (n : List ℕ). verbOr (reply s) n none) (append-nil _) ∙ sym e) (c .verb-at .ensures)
+    subst (λ (m : Lemma). LemmaAt s m (c .regular-lemma .result))
+    (linked-next s (a .linked .now) (a .stem .now) (l .link-of .result) (e .if3 .left) ∙ sym (decides l)) (c .regular-lemma .ensures)
 
 pub supported-infinitive-spec : {M : Type 1} → statement M
 supported-infinitive-spec =
@@ -91,12 +80,7 @@ supported-infinitive-spec =
     ends-with-requires
     returns-2
     link-of-requires
-    regular-lemma-requires
+    linked-verb-requires
     returns-3
-    add-end
-    sub-verb-at
-    part-verb-at-start
-    part-verb-at-end
-    slice-aggregate-verb-at
-    verb-at-requires
+    regular-lemma-requires
     returns-4)

@@ -1,0 +1,98 @@
+-- Demand 3, of the core call. Its contract says that for a word w and a sheet s it gives what `saidOf w s` says and the rows
+-- `rowsGiven w s`. Here, for every accepted word and sheet: it is refused with 7 exactly where there are more than 64 readings; otherwise
+-- the rows are every reading exactly once, in rank order, with its segments and score, and nothing besides; there are none exactly where
+-- there is no reading; two sheets alike in their replies to the word's own questions give the same. What a reading is, is said without
+-- a search in paths/specs. Assumes nothing.
+use Prim.Native.Nat.{ℕ, suc}
+use native.Mathlib.Omega.{arith}
+use mathlib.Core.Path.{_≡_, refl, sym, ap, subst, _∙_}
+use mathlib.Core.Logic.{_↔_}
+use mathlib.Core.List.{List, [], _∷_, map, List·Memᴰ, List·Memᴰ·head, List·Memᴰ·not-nil}
+use lib.ListN.{length}
+use Rattle.text.specs.Word.{wordCheck}
+use Rattle.text.specs.declared.word.WordCheck.the-variants as words
+use Rattle.sheet.specs.Lines.{sheetCheck}
+use Rattle.sheet.specs.declared.check.SheetCheck.the-variants as sheets
+use Rattle.sheet.specs.Inputs.{inputsOf, numbersGiven, lowestNumbers}
+use Rattle.sheet.specs.declared.inputs.Inputs.{Inputs}
+use Rattle.sheet.specs.declared.inputs.Inputs.the-variants as inputs
+use Rattle.sheet.specs.declared.inputs.Refusal.{Refusal}
+use Rattle.sheet.specs.Replies.{reply, Alike}
+use Rattle.sheet.proofs.Refusals.{accepted-both, lowest}
+use Rattle.ranking.specs.Lists.{Rows, rows, over}
+use Rattle.ranking.specs.declared.Reading.{Reading}
+use Rattle.paths.specs.Chains.{Route}
+use Rattle.paths.specs.Readings.{Parts, partsOf, IsReading, readingOf}
+use Rattle.paths.specs.Counted.{AtLeast}
+use Rattle.paths.specs.Questions.{Own}
+use Rattle.paths.proofs.Promises as found
+use Rattle.paths.proofs.Promises.{Listed}
+use Rattle.analysis.specs.declared.entry.Said.{Said}
+use Rattle.analysis.specs.declared.entry.Said.the-variants as said
+use Rattle.analysis.specs.Answers.{collected, byRows, listedRows, saidBy, rowsBy, saidOf, rowsGiven, saidNumbers}
+use Rattle.analysis.proofs.Accepted.{word-parts}
+
+-- an answer of the walk by its number, and the number by the answer
+seven-over : (c : Rows) → saidNumbers (byRows c) ≡ 7 ∷ [] → c ≡ over
+seven-over (rows rs) e = let z : _≡_ {A = ℕ} 0 1 = ap length e in absurd (omega arith)
+seven-over over e = refl
+
+listed-rows : (c : Rows) → byRows c ≡ said.Listed → c ≡ rows (listedRows c)
+listed-rows (rows rs) e = refl
+listed-rows over e = let z : _≡_ {A = ℕ} 1 0 = ap (λ (x : Said). length (saidNumbers x)) e in absurd (omega arith)
+
+module _ (w s : List ℕ) (aw : wordCheck w ≡ words.Accepted) (ah : sheetCheck s ≡ sheets.Accepted) where
+  said-is : saidOf w s ≡ byRows (collected w s)
+  unfolding saidOf
+  said-is = ap (λ (i : Inputs). saidBy i (collected w s)) (accepted-both w s aw ah)
+
+  rows-are : rowsGiven w s ≡ listedRows (collected w s)
+  unfolding rowsGiven
+  rows-are = ap (λ (i : Inputs). rowsBy i (collected w s)) (accepted-both w s aw ah)
+
+  -- refused with 7 exactly where the strip rules allow and the sheet supports more than 64 readings
+  pub seven-exactly : (saidNumbers (saidOf w s) ≡ 7 ∷ []) ↔ AtLeast 65 (IsReading (reply s) w)
+  seven-exactly = (
+    (λ e. found.over-exactly (reply s) w .0 (seven-over (collected w s) (ap saidNumbers (sym said-is) ∙ e))),
+    (λ m. ap saidNumbers (said-is ∙ ap byRows (found.over-exactly (reply s) w .1 m))),
+  )
+
+  -- otherwise the list is given, and holds every reading exactly once, in rank order, with its segments and score, and nothing besides
+  pub all-listed : (AtLeast 65 (IsReading (reply s) w) → ⊥) → (saidOf w s ≡ said.Listed) × Listed (reply s) w (rowsGiven w s)
+  all-listed few =
+      let l = found.listed (reply s) w (word-parts w aw .1) few in
+      (said-is ∙ ap byRows (l .1), subst (Listed (reply s) w) (sym (rows-are ∙ ap listedRows (l .1))) (l .2))
+
+  -- a list that is given is empty exactly where there is no reading
+  pub empty-exactly : saidOf w s ≡ said.Listed → (rowsGiven w s ≡ []) ↔ ((r : Parts) → IsReading (reply s) w r → ⊥)
+  empty-exactly e =
+      let few : AtLeast 65 (IsReading (reply s) w) → ⊥ =
+      (λ m. let z : _≡_ {A = ℕ} 0 1 = ap length (ap saidNumbers (sym e) ∙ seven-exactly .1 m) in absurd (omega arith)) in
+      let l = all-listed few .1 in (
+        (λ n r i. no-path (l .paths) (i .0) (l .rows-are ∙ n) (l .each (i .0) .1 (i .1))),
+        (λ u. sym (l .rows-are) ∙ none-there (l .paths) (λ p m. u (partsOf p) (p, l .each p .0 m, refl))),
+      )
+    where
+      no-path : (ps : List Route) (p : Route) → map (readingOf (reply s) w) ps ≡ [] → List·Memᴰ p ps → ⊥
+      no-path [] p n m = List·Memᴰ·not-nil m
+      no-path (q ∷ ps) p n m = let z : _≡_ {A = ℕ} (suc (length (map (readingOf (reply s) w) ps))) 0 = ap length n in absurd (omega arith)
+
+      none-there : (ps : List Route) → ((p : Route) → List·Memᴰ p ps → ⊥) → map (readingOf (reply s) w) ps ≡ []
+      none-there [] u = refl
+      none-there (p ∷ ps) u = absurd (u p (List·Memᴰ·head refl))
+
+-- two accepted sheets alike in their replies to the word's own questions give the same: the same list, or 7 both times
+pub same-answer : (s t w : List ℕ) → wordCheck w ≡ words.Accepted → sheetCheck s ≡ sheets.Accepted → sheetCheck t ≡ sheets.Accepted
+    → ((letter : ℕ) (name : List ℕ) → Own (reply s) w letter name → Alike s t letter name)
+    → (saidOf w s ≡ saidOf w t) × (rowsGiven w s ≡ rowsGiven w t)
+same-answer s t w aw ah bh h =
+    let c : collected w s ≡ collected w t = found.same-answer s t w (word-parts w aw .1) h in
+    (said-is w s aw ah ∙ ap byRows c ∙ sym (said-is w t aw bh), rows-are w s aw ah ∙ ap listedRows c ∙ sym (rows-are w t aw bh))
+
+-- a refused word or sheet: the lowest number that applies, and no rows
+pub refused : (w s : List ℕ) (r : Refusal) → inputsOf w s ≡ inputs.Refused r → (saidNumbers (saidOf w s) ≡ lowestNumbers w s) × (rowsGiven w s ≡ [])
+unfolding saidOf rowsGiven
+refused w s r e = (
+  ap (λ (i : Inputs). saidNumbers (saidBy i (collected w s))) e ∙ ap numbersGiven (sym e) ∙ lowest w s,
+  ap (λ (i : Inputs). rowsBy i (collected w s)) e,
+)
