@@ -4,3 +4,4 @@ pub mod Labels
 pub mod Parted
 pub mod Worked
 pub mod Room
+pub mod Answered

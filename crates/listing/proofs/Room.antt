@@ -19,7 +19,7 @@ use Rattle.ranking.specs.declared.AffixKind.the-variants.{Particle, CaseMarker,
 use Rattle.ranking.specs.declared.Segment.{Segment}
 use Rattle.ranking.specs.declared.Reading.{Reading}
 use Rattle.listing.specs.Decimal.{digit, decimal}
-use Rattle.listing.specs.Texts.{gap, partedFrom, kindText, segmentText, labelText, prefixTexts, segmentTexts, rowText, rowTexts, listingText, rowRoom, listingRoom}
+use Rattle.listing.specs.Texts.{gap, partedFrom, kindText, segmentText, labelText, prefixTexts, segmentTexts, rowText, rowTexts, listingText, refusedText, rowRoom, listingRoom}
 use Rattle.listing.proofs.Digits.{one-digit, more-digits}
 
 -- a row of a table none of whose rows is longer than m, and what stands for one that is not there
@@ -119,3 +119,15 @@ module _ (w : List ℕ) (i whole : ℕ) (rs : List Reading) (so-far : whole ≤ 
 pub listing-size : (w : List ℕ) (rs : List Reading) (n : ℕ) → n ≤ 64 → n ≡ length rs → length (rowTexts w rs) ≤ n * rowRoom → length (listingText w rs) ≤ listingRoom
 unfolding listingText
 listing-size w rs n h e r = let d = count-size (length rs) (omega arith) in simp length-append (omega arith)
+
+-- a refusal's line
+pub number-line-size : (n : ℕ) → n < 10 → length (refusedText (n ∷ [])) ≤ listingRoom
+unfolding refusedText
+number-line-size n h = let d = digit-size n h in simp length-append (omega arith)
+
+pub place-line-size : (n start : ℕ) → n < 10 → start < 65536 → length (refusedText (n ∷ start ∷ [])) ≤ listingRoom
+unfolding refusedText
+place-line-size n start h l =
+    let d = digit-size n h in
+    let e = number-size start (omega arith) in
+    simp length-append (omega arith)

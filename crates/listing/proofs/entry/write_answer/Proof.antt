@@ -1,48 +1,47 @@
+-- `entry::write_answer` meets its contract: too long an input, or a word and a sheet. Assumes nothing.
+use native.Mathlib.Omega.{arith}
+use mathlib.Core.Path.{sym}
+use lib.Seq.{length-take-le}
+use Rattle.listing.proofs.Room.{number-line-size}
+use Rattle.listing.proofs.Answered.{answers-as, printed-long, word-end, printed-parts}
 use borrow.Author.Needs.{needs}
 use Rattle.listing.proofs.entry.write_answer.Statement.{statement}
 use Rattle.listing.proofs.entry.write_answer.Tie as tie
-use Rattle.listing.proofs.entry.write_answer.Reads as reads
-use Rattle.listing.proofs.entry.write_answer.Lts as lts
-use Rattle.bytes.proofs.scan.find.Reads as find-reads
-use Rattle.listing.proofs.entry.after.Reads as after-reads
-use Rattle.listing.proofs.entry.write_readings.Reads as write-readings-reads
-use Rattle.listing.proofs.write_refused.Reads as write-refused-reads
 
--- src/entry.rt:65:9
 write-refused-requires : tie.Need-write-refused-requires
-write-refused-requires c κs = search needs
+write-refused-requires c κs = tt
 
--- src/entry.rt:65:9
 same-length : tie.Need-same-length
 same-length c = search needs
 
--- src/entry.rt:65:9
 returns : tie.Need-returns
-returns c = ?
+returns c =
+    let t = c .before .before .before .before in
+    answers-as (t .before .before .before .args .out .now) (printed-long _ (t .if1 .taken)) (c .before .before .write-refused .ensures) (number-line-size 4 (omega arith))
 
--- src/entry.rt:67:9
 find-requires : tie.Need-find-requires
 find-requires c κs = search needs
 
--- src/entry.rt:68:20
 slice-aggregate-write-readings : tie.Need-slice-aggregate-write-readings
-slice-aggregate-write-readings c = ?
+slice-aggregate-write-readings c = sym (length-take-le (c .before .find .result) (c .before .before .before .before .before .args .input .now) (c .before .find .ensures .1))
 
--- src/entry.rt:68:35
 after-requires : tie.Need-after-requires
 after-requires c κs = search needs
 
--- src/entry.rt:68:5
 write-readings-requires : tie.Need-write-readings-requires
-write-readings-requires c κs = search needs
+write-readings-requires c κs = tt
 
--- src/entry.rt:61:1
 same-length-2 : tie.Need-same-length-2
 same-length-2 c = search needs
 
--- src/entry.rt:61:1
 returns-2 : tie.Need-returns-2
-returns-2 c = ?
+returns-2 c =
+    let p = c .before .before in
+    let f = p .before .before .before .before in
+    let a = f .before .before .before .before .args in
+    let i = a .input .now in
+    let r = p .write-readings .ensures in
+    answers-as (a .out .now) (printed-parts i _ _ (f .before .if1 .left) (word-end i _ (f .find .ensures .0)) (p .before .before .after .ensures)) (r .0, r .1) (r .2)
 
 pub write-answer-spec : {M : Type 1} → statement M
 write-answer-spec =

@@ -1,68 +1,79 @@
+-- `entry::write_readings` meets its contract, by what the core call says. Assumes nothing.
+use Prim.Native.Nat.{ℕ, _≤_}
+use native.Mathlib.Omega.{arith}
+use mathlib.Core.Path.{sym, subst, _∙_}
+use mathlib.Core.List.{List}
+use lib.ListN.{length}
+use Rattle.listing.specs.Texts.{refusedText, listingRoom}
+use Rattle.listing.proofs.Room.{number-line-size}
+use Rattle.listing.proofs.Answered.{answers-as, text-listed, text-refused, text-over, listed-short, refused-short}
 use borrow.Author.Needs.{needs}
 use Rattle.listing.proofs.entry.write_readings.Statement.{statement}
 use Rattle.listing.proofs.entry.write_readings.Tie as tie
-use Rattle.listing.proofs.entry.write_readings.Reads as reads
-use Rattle.listing.proofs.entry.write_readings.Lts as lts
-use Rattle.analysis.proofs.entry.analyze_affixes.Reads as analyze-affixes-reads
-use Rattle.listing.proofs.entry.refused_of.Reads as refused-of-reads
-use Rattle.listing.proofs.write_listing.Reads as write-listing-reads
-use Rattle.listing.proofs.write_refused.Reads as write-refused-reads
 
--- src/entry.rt:38:9
 analyze-affixes-requires : tie.Need-analyze-affixes-requires
-analyze-affixes-requires c κs = search needs
+analyze-affixes-requires c κs = tt
 
--- src/entry.rt:42:51
 enum-told : tie.Need-enum-told
 enum-told c = search needs
 
--- src/entry.rt:42:25
 write-listing-requires : tie.Need-write-listing-requires
-write-listing-requires c κs = search needs
+write-listing-requires c κs = tt
 
--- src/entry.rt:43:23
 enum-known-said : tie.Need-enum-known-said
 enum-known-said c = search needs
 
--- src/entry.rt:43:49
 refused-of-requires : tie.Need-refused-of-requires
-refused-of-requires c κs = search needs
+refused-of-requires c κs = tt
 
--- src/entry.rt:43:35
 write-refused-requires : tie.Need-write-refused-requires
-write-refused-requires c κs = search needs
+write-refused-requires c κs = tt
 
--- src/entry.rt:44:40
 enum-told-2 : tie.Need-enum-told-2
 enum-told-2 c = search needs
 
--- src/entry.rt:44:26
 write-refused-requires-2 : tie.Need-write-refused-requires-2
-write-refused-requires-2 c κs = search needs
+write-refused-requires-2 c κs = tt
 
--- src/entry.rt:35:1
 same-length : tie.Need-same-length
 same-length c = search needs
 
--- src/entry.rt:35:1
 returns : tie.Need-returns
-returns c = ?
+returns c =
+    let p = c .before .before in
+    let d = p .before .before .before .before .before in
+    let a = d .before .before .before .before .args in
+    let w = a .word .now in
+    let s = a .sheet .now in
+    let e = sym (d .analyze-affixes .ensures .0) ∙ p .before .before .enum-told .given .1 in
+    let r = p .write-listing .ensures in
+    answers-as (a .out .now) (text-listed w s _ e (d .analyze-affixes .ensures .1)) (r .0, r .1) (r .2 (listed-short w s e))
 
--- src/entry.rt:35:1
 same-length-2 : tie.Need-same-length-2
 same-length-2 c = search needs
 
--- src/entry.rt:35:1
 returns-2 : tie.Need-returns-2
-returns-2 c = ?
+returns-2 c =
+    let p = c .before .before in
+    let d = p .before .before .before .before .before .before .before in
+    let a = d .before .before .before .before .args in
+    let w = a .word .now in
+    let s = a .sheet .now in
+    let e = sym (d .analyze-affixes .ensures .0) ∙ p .before .before .before .before .said .given .1 in
+    let n = p .before .before .refused-of .ensures in
+    answers-as (a .out .now) (text-refused w s _ _ e n) (p .write-refused .ensures)
+    (subst (λ (x : List ℕ). length (refusedText x) ≤ listingRoom) (sym n) (refused-short w s _ e))
 
--- src/entry.rt:35:1
 same-length-3 : tie.Need-same-length-3
 same-length-3 c = search needs
 
--- src/entry.rt:35:1
 returns-3 : tie.Need-returns-3
-returns-3 c = ?
+returns-3 c =
+    let p = c .before .before in
+    let d = p .before .before .before .before .before in
+    let a = d .before .before .before .before .args in
+    let e = sym (d .analyze-affixes .ensures .0) ∙ p .before .before .enum-told2 .given .1 in
+    answers-as (a .out .now) (text-over (a .word .now) (a .sheet .now) e) (p .write-refused2 .ensures) (number-line-size 7 (omega arith))
 
 pub write-readings-spec : {M : Type 1} → statement M
 write-readings-spec =
