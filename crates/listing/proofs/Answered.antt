@@ -26,6 +26,7 @@ use Rattle.listing.specs.Placed.{writtenOf, filled}
 use Rattle.listing.specs.Texts.{listingText, refusedText, listingRoom}
 use Rattle.listing.specs.Printed.{saidText, readingsText, wordOf, sheetOf, inputLimit, printed}
 use Rattle.listing.specs.declared.Written.{Written}
+use Rattle.listing.specs.declared.Written.the-variants.{Bytes}
 use Rattle.listing.proofs.Room.{number-line-size, place-line-size}
 
 -- what an entry gives and leaves for a text
@@ -34,6 +35,14 @@ Answers text out new r = (r ≡ writtenOf text out) × (new ≡ filled text out)
 
 pub answers-as : {t u new : List ℕ} {r : Written} (out : List ℕ) → t ≡ u → (r ≡ writtenOf t out) × (new ≡ filled t out) → length t ≤ listingRoom → Answers u out new r
 answers-as {t} {u} {new} {r} out e a l = subst (λ (x : List ℕ). Answers x out new r) e (a .0, a .1, l)
+
+-- a buffer with room for the longest list is never too short
+pub answers-whole : {new : List ℕ} {r : Written} (text out : List ℕ) → listingRoom ≤ length out → Answers text out new r
+    → (r ≡ Bytes (length text)) × (new ≡ text ++ drop (length text) out)
+answers-whole text out h a =
+    let l = a .2 in
+    let t = le-leb (length text) (length out) (omega arith) in
+    (rw t at (a .0), rw t at (a .1))
 
 module _ (w s : List ℕ) where
   -- the list
