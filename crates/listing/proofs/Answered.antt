@@ -4,8 +4,10 @@ use Prim.Native.Nat.{ℕ, _+_, _-_, _≤_, _<_}
 use native.Mathlib.Omega.{arith}
 use mathlib.Core.Path.{_≡_, refl, sym, ap, subst, _∙_}
 use mathlib.Core.List.{List, [], _∷_, _++_}
-use lib.ListN.{length, take, drop, length-drop, drop-of-length-le}
-use lib.Seq.{take-all, take-length}
+use lib.ListN.{length, take, drop, length-append, length-drop, drop-of-length-le}
+use lib.Seq.{take-all, take-length, take-at}
+use mathlib.Core.Bool.{true}
+use lib.Dec.{leb}
 use native.Mathlib.Nat.{zero-add}
 use borrow.Author.Tests.{le-leb, lt-leb}
 use Rattle.bytes.specs.Bytes.{slice, indexOf}
@@ -22,11 +24,11 @@ use Rattle.analysis.specs.Answers.{collected, byRows, saidBy, saidOf, rowsGiven
 use Rattle.analysis.specs.declared.entry.Said.{Said}
 use Rattle.analysis.specs.declared.entry.Said.the-variants.{Listed, Refused, TooMany}
 use Rattle.analysis.proofs.Accepted.{word-parts}
-use Rattle.listing.specs.Placed.{writtenOf, filled}
+use Rattle.listing.specs.Placed.{writtenOf, filled, Whole}
 use Rattle.listing.specs.Texts.{listingText, refusedText, listingRoom}
 use Rattle.listing.specs.Printed.{saidText, readingsText, wordOf, sheetOf, inputLimit, printed}
 use Rattle.listing.specs.declared.Written.{Written}
-use Rattle.listing.specs.declared.Written.the-variants.{Bytes}
+use Rattle.listing.specs.declared.Written.the-variants.{Bytes, TooShort}
 use Rattle.listing.proofs.Room.{number-line-size, place-line-size}
 
 -- what an entry gives and leaves for a text
@@ -37,12 +39,26 @@ pub answers-as : {t u new : List ℕ} {r : Written} (out : List ℕ) → t ≡ u
 answers-as {t} {u} {new} {r} out e a l = subst (λ (x : List ℕ). Answers x out new r) e (a .0, a .1, l)
 
 -- a buffer with room for the longest list is never too short
-pub answers-whole : {new : List ℕ} {r : Written} (text out : List ℕ) → listingRoom ≤ length out → Answers text out new r
-    → (r ≡ Bytes (length text)) × (new ≡ text ++ drop (length text) out)
-answers-whole text out h a =
-    let l = a .2 in
-    let t = le-leb (length text) (length out) (omega arith) in
-    (rw t at (a .0), rw t at (a .1))
+module _ (text out new : List ℕ) (r : Written) (room : listingRoom ≤ length out) (a : Answers text out new r) where
+  fits : leb (length text) (length out) ≡ true
+  fits = le-leb (length text) (length out) (let l = a .2 in omega arith)
+
+  pub whole : (n : ℕ) → r ≡ Bytes n → Whole text out new n
+  whole n g =
+      let b : r ≡ Bytes (length text) = rw fits at (a .0) in
+      let f : new ≡ text ++ drop (length text) out = rw fits at (a .1) in
+      let e : n ≡ length text = cc in
+      let all = f ∙ ap (λ (k : ℕ). text ++ drop k out) (sym e) in
+      let l = ap length all ∙ length-append text (drop n out) in
+      record {
+        size = e;
+        contents = all;
+        inside = omega arith;
+        counted = e ∙ ap length (sym (ap (take n) all ∙ take-at text (drop n out) n (sym e)));
+      }
+
+  pub never-short : r ≡ TooShort → ⊥
+  never-short g = let b : r ≡ Bytes (length text) = rw fits at (a .0) in let z : _≡_ {A = ℕ} 0 1 = cc in omega arith
 
 module _ (w s : List ℕ) where
   -- the list

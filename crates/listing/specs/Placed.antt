@@ -36,3 +36,11 @@ filled text out = pick (leb (length text) (length out)) (text ++ drop (length te
 abbrev pub writtenNumber : Written → ℕ
 writtenNumber (Bytes n) = 0
 writtenNumber TooShort = 8
+
+-- a text written whole at the front of a buffer, of which r counts its bytes. The last two parts follow from the first two; a caller
+-- that lends the front of the buffer asks for them
+pub record Whole (text old new : List ℕ) (r : ℕ) : Type 0 where
+  pub size : r ≡ length text
+  pub contents : new ≡ text ++ drop r old
+  pub inside : r ≤ length new
+  pub counted : r ≡ length (take r new)

@@ -13,6 +13,7 @@ ghost use Rattle.listing.specs.Texts.{listingText, refusedNumbers, refus
 pub mod entry;
 pub mod pieces;
 pub mod rows;
+pub mod whole;
 
 // How many bytes were written, or that the buffer is shorter than the text, which leaves it as it was.
 pub enum Written {

@@ -1,10 +1,10 @@
--- `replay::decimal_at` meets its contract: the number stays small, and the place inside. Assumes nothing.
+-- `blocks::decimal_at` meets its contract: the number stays small, and the place inside. Assumes nothing.
 use Prim.Native.Nat.{_-_, _≤_}
 use native.Mathlib.Omega.{arith}
 use borrow.Author.Needs.{needs}
 use lib.ListN.{length}
-use Rattle.replay.proofs.decimal_at.Statement.{statement}
-use Rattle.replay.proofs.decimal_at.Tie as tie
+use Rattle.blocks.proofs.decimal_at.Statement.{statement}
+use Rattle.blocks.proofs.decimal_at.Tie as tie
 
 abbrev Inv-loop : tie.InvT-loop
 Inv-loop s at value₀ i₀ value i = (at ≤ i) × (i ≤ length s) × (value ≤ 2000000)
