@@ -24,29 +24,26 @@ use Rattle.analysis.specs.Answers.{collected, byRows, saidBy, saidOf, rowsGiven
 use Rattle.analysis.specs.declared.entry.Said.{Said}
 use Rattle.analysis.specs.declared.entry.Said.the-variants.{Listed, Refused, TooMany}
 use Rattle.analysis.proofs.Accepted.{word-parts}
-use Rattle.listing.specs.Placed.{writtenOf, filled, Whole}
+use Rattle.listing.specs.Placed.{Answer, Whole}
 use Rattle.listing.specs.Texts.{listingText, refusedText, listingRoom}
 use Rattle.listing.specs.Printed.{saidText, readingsText, wordOf, sheetOf, inputLimit, printed}
 use Rattle.listing.specs.declared.Written.{Written}
 use Rattle.listing.specs.declared.Written.the-variants.{Bytes, TooShort}
 use Rattle.listing.proofs.Room.{number-line-size, place-line-size}
 
--- what an entry gives and leaves for a text
-abbrev pub Answers : List ℕ → List ℕ → List ℕ → Written → Type 0
-Answers text out new r = (r ≡ writtenOf text out) × (new ≡ filled text out) × (length text ≤ listingRoom)
-
-pub answers-as : {t u new : List ℕ} {r : Written} (out : List ℕ) → t ≡ u → (r ≡ writtenOf t out) × (new ≡ filled t out) → length t ≤ listingRoom → Answers u out new r
-answers-as {t} {u} {new} {r} out e a l = subst (λ (x : List ℕ). Answers x out new r) e (a .0, a .1, l)
+-- the same text, said otherwise
+pub answer-as : {t u old new : List ℕ} {r : Written} → t ≡ u → Answer t old new r → length t ≤ listingRoom → Answer u old new r × (length u ≤ listingRoom)
+answer-as {old = old} {new = new} {r = r} e a l = subst (λ (x : List ℕ). Answer x old new r × (length x ≤ listingRoom)) e (a, l)
 
 -- a buffer with room for the longest list is never too short
-module _ (text out new : List ℕ) (r : Written) (room : listingRoom ≤ length out) (a : Answers text out new r) where
+module _ (text out new : List ℕ) (r : Written) (room : listingRoom ≤ length out) (a : Answer text out new r) (short : length text ≤ listingRoom) where
   fits : leb (length text) (length out) ≡ true
-  fits = le-leb (length text) (length out) (let l = a .2 in omega arith)
+  fits = le-leb (length text) (length out) (omega arith)
 
   pub whole : (n : ℕ) → r ≡ Bytes n → Whole text out new n
   whole n g =
-      let b : r ≡ Bytes (length text) = rw fits at (a .0) in
-      let f : new ≡ text ++ drop (length text) out = rw fits at (a .1) in
+      let b : r ≡ Bytes (length text) = rw fits at (a .given) in
+      let f : new ≡ text ++ drop (length text) out = rw fits at (a .left) in
       let e : n ≡ length text = cc in
       let all = f ∙ ap (λ (k : ℕ). text ++ drop k out) (sym e) in
       let l = ap length all ∙ length-append text (drop n out) in
@@ -58,7 +55,7 @@ module _ (text out new : List ℕ) (r : Written) (room : listingRoom ≤ length 
       }
 
   pub never-short : r ≡ TooShort → ⊥
-  never-short g = let b : r ≡ Bytes (length text) = rw fits at (a .0) in let z : _≡_ {A = ℕ} 0 1 = cc in omega arith
+  never-short g = let b : r ≡ Bytes (length text) = rw fits at (a .given) in let z : _≡_ {A = ℕ} 0 1 = cc in omega arith
 
 module _ (w s : List ℕ) where
   -- the list

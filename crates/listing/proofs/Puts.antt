@@ -8,7 +8,7 @@ use lib.ListN.{length, take, drop, length-append, length-drop, take-append-drop}
 use lib.Seq.{length-take-le, take-at, drop-append-add, drop-drop, take-length, drop-length}
 use borrow.Rule.Slice.PartMut.{midOf, putMid, mid-len, post-is}
 use borrow.Author.Tests.{le-leb, lt-leb}
-use Rattle.listing.specs.Placed.{largest, placed, Wrote, writtenOf, filled}
+use Rattle.listing.specs.Placed.{largest, placed, Wrote, Answer}
 use Rattle.listing.specs.declared.Written.the-variants.{Bytes, TooShort}
 
 length-placed : (old : List ℕ) (at : ℕ) (text : List ℕ) → at + length text ≤ length old → length (placed old at text) ≡ length old
@@ -113,19 +113,19 @@ upto-all u e = put-as (sym (append-nil (u .done)) ∙ ap (λ (x : List ℕ). u .
 
 -- the text fits in, and was put at the front
 pub written-whole : {none spent out new text : List ℕ} {n next : ℕ} → Wrote none spent 0 n text → n ≤ length out → length out < largest
-    → Wrote out new 0 next text → (Bytes n ≡ writtenOf text out) × (new ≡ filled text out)
+    → Wrote out new 0 next text → Answer text out new (Bytes n)
 unfolding placed
 written-whole {out = out} {text = text} {n = n} m f s w =
     let q = m .end in
     let e : n ≡ length text = omega arith in
     let z : 0 + length text ≡ length text = omega arith in
     let t = le-leb (length text) (length out) (omega arith) in
-    (rw (t, e), rw t (w .there (omega arith) (omega arith) ∙ ap (λ (k : ℕ). text ++ drop k out) z))
+    record { given = rw (t, e); left = rw t (w .there (omega arith) (omega arith) ∙ ap (λ (k : ℕ). text ++ drop k out) z) }
 
 -- it does not
 pub written-not : {none spent out text : List ℕ} {n : ℕ} → Wrote none spent 0 n text → length out < n
-    → (TooShort ≡ writtenOf text out) × (out ≡ filled text out)
+    → Answer text out out TooShort
 written-not {out = out} {text = text} m f =
     let q = m .end in
     let t = lt-leb (length text) (length out) (omega arith) in
-    (rw t, rw t)
+    record { given = rw t; left = rw t }

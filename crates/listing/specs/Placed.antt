@@ -32,6 +32,11 @@ writtenOf text out = pick (leb (length text) (length out)) (Bytes (length text))
 abbrev pub filled : List ℕ → List ℕ → List ℕ
 filled text out = pick (leb (length text) (length out)) (text ++ drop (length text) out) out
 
+-- what an entry that writes a text gives, and what it leaves in the buffer
+pub record Answer (text old new : List ℕ) (r : Written) : Type 0 where
+  pub given : r ≡ writtenOf text old
+  pub left : new ≡ filled text old
+
 -- document 01's number for an output shorter than the answer, 0 where it is written
 abbrev pub writtenNumber : Written → ℕ
 writtenNumber (Bytes n) = 0

@@ -17,7 +17,7 @@ use Rattle.listing.specs.declared.Refused.the-variants.{Number, Line}
 -- a space before every text but the first
 abbrev pub gap : ℕ → List ℕ
 gap zero = []
-gap (suc i) = 32 ∷ []
+gap (suc i) = 0x20 ∷ []
 
 abbrev pub partedFrom : ℕ → List (List ℕ) → List ℕ
 partedFrom i [] = []
@@ -29,20 +29,20 @@ parted ts = partedFrom 0 ts
 
 -- the name of a kind
 abbrev pub kindText : AffixKind → List ℕ
-kindText Particle = 112 ∷ 97 ∷ 114 ∷ 116 ∷ 105 ∷ 99 ∷ 108 ∷ 101 ∷ []  -- particle
-kindText CaseMarker = 99 ∷ 97 ∷ 115 ∷ 101 ∷ []  -- case
-kindText PluralMarker = 112 ∷ 108 ∷ 117 ∷ 114 ∷ 97 ∷ 108 ∷ []  -- plural
-kindText Postposition = 112 ∷ 111 ∷ 115 ∷ 116 ∷ []  -- post
-kindText ComparisonMarker = 99 ∷ 111 ∷ 109 ∷ 112 ∷ []  -- comp
+kindText Particle = 0x70 ∷ 0x61 ∷ 0x72 ∷ 0x74 ∷ 0x69 ∷ 0x63 ∷ 0x6C ∷ 0x65 ∷ []  -- particle
+kindText CaseMarker = 0x63 ∷ 0x61 ∷ 0x73 ∷ 0x65 ∷ []  -- case
+kindText PluralMarker = 0x70 ∷ 0x6C ∷ 0x75 ∷ 0x72 ∷ 0x61 ∷ 0x6C ∷ []  -- plural
+kindText Postposition = 0x70 ∷ 0x6F ∷ 0x73 ∷ 0x74 ∷ []  -- post
+kindText ComparisonMarker = 0x63 ∷ 0x6F ∷ 0x6D ∷ 0x70 ∷ []  -- comp
 
 -- (LABEL KIND)
 unfoldable pub segmentText : Segment → List ℕ
 segmentText s =
-    (40 ∷ [])  -- (
+    (0x28 ∷ [])  -- (
     ++ (getD affixes (s .label) []
-    ++ ((32 ∷ [])
+    ++ ((0x20 ∷ [])
     ++ (kindText (s .kind)
-    ++ (41 ∷ []))))  -- )
+    ++ (0x29 ∷ []))))  -- )
 
 -- the label of a row of PREFIX_FORMS
 abbrev pub labelText : ℕ → List ℕ
@@ -58,17 +58,17 @@ segmentTexts r = map segmentText (take (r .«suffix_count») (r .segments))
 -- (r STEM ROOT (LABELS) (SEGMENTS) SCORE) and 0A, for a reading of the word w
 unfoldable pub rowText : List ℕ → Reading → List ℕ
 rowText w r =
-    (40 ∷ 114 ∷ 32 ∷ [])  -- (r
+    (0x28 ∷ 0x72 ∷ 0x20 ∷ [])  -- (r
     ++ (part w 0 (r .stem)
-    ++ ((32 ∷ [])
+    ++ ((0x20 ∷ [])
     ++ (rootText w r
-    ++ ((32 ∷ 40 ∷ [])  -- (
+    ++ ((0x20 ∷ 0x28 ∷ [])  -- (
     ++ (parted (prefixTexts r)
-    ++ ((41 ∷ 32 ∷ 40 ∷ [])  -- ) (
+    ++ ((0x29 ∷ 0x20 ∷ 0x28 ∷ [])  -- ) (
     ++ (parted (segmentTexts r)
-    ++ ((41 ∷ 32 ∷ [])  -- )
+    ++ ((0x29 ∷ 0x20 ∷ [])  -- )
     ++ (decimal (r .score)
-    ++ (41 ∷ 10 ∷ []))))))))))  -- ) and 0A
+    ++ (0x29 ∷ 0x0A ∷ []))))))))))  -- ) and 0A
 
 abbrev pub rowTexts : List ℕ → List Reading → List ℕ
 rowTexts w [] = []
@@ -77,9 +77,9 @@ rowTexts w (r ∷ rs) = rowText w r ++ rowTexts w rs
 -- (list N) and 0A, then the rows
 unfoldable pub listingText : List ℕ → List Reading → List ℕ
 listingText w rs =
-    (40 ∷ 108 ∷ 105 ∷ 115 ∷ 116 ∷ 32 ∷ [])  -- (list
+    (0x28 ∷ 0x6C ∷ 0x69 ∷ 0x73 ∷ 0x74 ∷ 0x20 ∷ [])  -- (list
     ++ (decimal (length rs)
-    ++ ((41 ∷ 10 ∷ [])  -- ) and 0A
+    ++ ((0x29 ∷ 0x0A ∷ [])  -- ) and 0A
     ++ rowTexts w rs))
 
 -- the numbers that a refusal prints
@@ -90,9 +90,9 @@ refusedNumbers (Line n start) = n ∷ start ∷ []
 -- (refused N) or (refused N START), and 0A
 unfoldable pub refusedText : List ℕ → List ℕ
 refusedText numbers =
-    (40 ∷ 114 ∷ 101 ∷ 102 ∷ 117 ∷ 115 ∷ 101 ∷ 100 ∷ 32 ∷ [])  -- (refused
+    (0x28 ∷ 0x72 ∷ 0x65 ∷ 0x66 ∷ 0x75 ∷ 0x73 ∷ 0x65 ∷ 0x64 ∷ 0x20 ∷ [])  -- (refused
     ++ (parted (map decimal numbers)
-    ++ (41 ∷ 10 ∷ []))  -- ) and 0A
+    ++ (0x29 ∷ 0x0A ∷ []))  -- ) and 0A
 
 -- how long a row and a list can be, of a word that is not too long
 abbrev pub rowRoom : ℕ

@@ -12,7 +12,7 @@ ghost use Prim.Native.Nat.{_+_, _≤_};
 ghost use lib.ListN.{length, drop};
 ghost use Rattle.bytes.specs.Bytes.{indexOf};
 ghost use Rattle.sheet.specs.Inputs.{numbersOf};
-ghost use Rattle.listing.specs.Placed.{writtenOf, filled};
+ghost use Rattle.listing.specs.Placed.{Answer};
 ghost use Rattle.listing.specs.Texts.{refusedNumbers, listingRoom};
 ghost use Rattle.listing.specs.Printed.{readingsText, printed};
 
@@ -33,7 +33,7 @@ fn refused_of(refusal: Refusal) -> Refused
 // Writes the readings of the word at the front of `out`, or the line of the refusal. Too short a buffer is left as it was; 35,466
 // bytes are always enough.
 pub fn write_readings(word: &[u8], sheet: &[u8], out: &mut [u8]) -> Written
-    ensures { λ r. ⌜ (r ≡ writtenOf (readingsText (now (word .entry)) (now (sheet .entry))) (now (out .entry))) × (now (out .exit) ≡ filled (readingsText (now (word .entry)) (now (sheet .entry))) (now (out .entry))) × (length (readingsText (now (word .entry)) (now (sheet .entry))) ≤ listingRoom) ⌝ }
+    ensures { λ r. ⌜ Answer (readingsText (now (word .entry)) (now (sheet .entry))) (now (out .entry)) (now (out .exit)) r × (length (readingsText (now (word .entry)) (now (sheet .entry))) ≤ listingRoom) ⌝ }
 {
     let analysis = analyze_affixes(word, sheet);
     let said = analysis.said;
@@ -59,7 +59,7 @@ fn after<'i>(input: &'i [u8], end: usize) -> &'i [u8]
 
 // Writes what the program prints for its input: the word up to the first 0A, then the sheet.
 pub fn write_answer(input: &[u8], out: &mut [u8]) -> Written
-    ensures { λ r. ⌜ (r ≡ writtenOf (printed (now (input .entry))) (now (out .entry))) × (now (out .exit) ≡ filled (printed (now (input .entry))) (now (out .entry))) × (length (printed (now (input .entry))) ≤ listingRoom) ⌝ }
+    ensures { λ r. ⌜ Answer (printed (now (input .entry))) (now (out .entry)) (now (out .exit)) r × (length (printed (now (input .entry))) ≤ listingRoom) ⌝ }
 {
     if 65536 < input.len() {
         return write_refused(Refused::Number(4), out);

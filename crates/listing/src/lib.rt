@@ -7,12 +7,12 @@ ghost use Prim.Native.Nat.{_≤_};
 ghost use lib.ListN.{length};
 ghost use Rattle.text.specs.Word.{wordLimit};
 ghost use Rattle.ranking.specs.Lists.{rowsOf};
-ghost use Rattle.listing.specs.Placed.{writtenOf, filled};
+ghost use Rattle.listing.specs.Placed.{Answer};
 ghost use Rattle.listing.specs.Texts.{listingText, refusedNumbers, refusedText, listingRoom};
 
 pub mod entry;
-pub mod pieces;
-pub mod rows;
+mod pieces;
+mod rows;
 pub mod whole;
 
 // How many bytes were written, or that the buffer is shorter than the text, which leaves it as it was.
@@ -29,7 +29,7 @@ pub enum Refused {
 
 // Writes the text of a list of readings of the word at the front of `out`. Too short a buffer is left as it was.
 pub fn write_listing(word: &[u8], list: Listing, out: &mut [u8]) -> Written
-    ensures { λ r. ⌜ (r ≡ writtenOf (listingText (now (word .entry)) (rowsOf list)) (now (out .entry))) × (now (out .exit) ≡ filled (listingText (now (word .entry)) (rowsOf list)) (now (out .entry))) × (length (now (word .entry)) ≤ wordLimit → length (listingText (now (word .entry)) (rowsOf list)) ≤ listingRoom) ⌝ }
+    ensures { λ r. ⌜ Answer (listingText (now (word .entry)) (rowsOf list)) (now (out .entry)) (now (out .exit)) r × (length (now (word .entry)) ≤ wordLimit → length (listingText (now (word .entry)) (rowsOf list)) ≤ listingRoom) ⌝ }
 {
     let mut none = [0u8; 0];
     let size = put_listing(&mut none, 0, word, list);
@@ -42,7 +42,7 @@ pub fn write_listing(word: &[u8], list: Listing, out: &mut [u8]) -> Written
 
 // Writes the line of a refusal at the front of `out`. Too short a buffer is left as it was.
 pub fn write_refused(refused: Refused, out: &mut [u8]) -> Written
-    ensures { λ r. ⌜ (r ≡ writtenOf (refusedText (refusedNumbers refused)) (now (out .entry))) × (now (out .exit) ≡ filled (refusedText (refusedNumbers refused)) (now (out .entry))) ⌝ }
+    ensures { λ r. ⌜ Answer (refusedText (refusedNumbers refused)) (now (out .entry)) (now (out .exit)) r ⌝ }
 {
     let mut none = [0u8; 0];
     let n = put_refused(&mut none, 0, refused);

@@ -17,7 +17,7 @@ fn end_of(at: usize, n: usize) -> usize
 }
 
 // Puts a text at a place, and gives the place after it.
-pub fn put(out: &mut [u8], at: usize, text: &[u8]) -> usize
+pub(crate) fn put(out: &mut [u8], at: usize, text: &[u8]) -> usize
     ensures { λ r. ⌜ Wrote (now (out .entry)) (now (out .exit)) at r (now (text .entry)) ⌝ }
 {
     let end = end_of(at, text.len());
@@ -38,7 +38,7 @@ fn put_digit(out: &mut [u8], at: usize, d: usize) -> usize
 }
 
 // Puts a number in decimal notation.
-pub fn put_decimal(out: &mut [u8], at: usize, n: usize) -> usize
+pub(crate) fn put_decimal(out: &mut [u8], at: usize, n: usize) -> usize
     ensures { λ r. ⌜ Wrote (now (out .entry)) (now (out .exit)) at r (decimal n) ⌝ }
 {
     if n < 10 {

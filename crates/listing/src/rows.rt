@@ -175,7 +175,7 @@ fn put_rows(
 }
 
 // Puts a list: how many rows there are, then the rows.
-pub fn put_listing(out: &mut [u8], at: usize, word: &[u8], list: Listing) -> usize
+pub(crate) fn put_listing(out: &mut [u8], at: usize, word: &[u8], list: Listing) -> usize
     ensures { λ r. ⌜ Wrote (now (out .entry)) (now (out .exit)) at r (listingText (now (word .entry)) (rowsOf list)) × (length (now (word .entry)) ≤ wordLimit → length (listingText (now (word .entry)) (rowsOf list)) ≤ listingRoom) ⌝ }
 {
     let labels = tables::prefix_labels();
@@ -190,7 +190,7 @@ pub fn put_listing(out: &mut [u8], at: usize, word: &[u8], list: Listing) -> usi
 }
 
 // Puts a refusal: its number, and where a line is at fault the first byte of that line.
-pub fn put_refused(out: &mut [u8], at: usize, refused: Refused) -> usize
+pub(crate) fn put_refused(out: &mut [u8], at: usize, refused: Refused) -> usize
     ensures { λ r. ⌜ Wrote (now (out .entry)) (now (out .exit)) at r (refusedText (refusedNumbers refused)) ⌝ }
 {
     let a = put(out, at, b"(refused ");

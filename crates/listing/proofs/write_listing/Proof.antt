@@ -13,7 +13,7 @@ put-listing-requires : tie.Need-put-listing-requires
 put-listing-requires c κs = tt
 
 returns : tie.Need-returns
-returns c = let p = c .before .before in let w = written-not (p .put-listing .ensures .0) (c .if1 .taken) in (w .0, w .1, p .put-listing .ensures .1)
+returns c = let p = c .before .before in let w = written-not (p .put-listing .ensures .0) (c .if1 .taken) in (w, p .put-listing .ensures .1)
 
 put-listing-requires-2 : tie.Need-put-listing-requires-2
 put-listing-requires-2 c κs = tt
@@ -26,7 +26,7 @@ returns-2 c =
     let e = c .before .before .before .before in
     let p = e .before .before in
     let w = written-whole (p .put-listing .ensures .0) (e .if1 .left) (omega arith) (c .before .before .put-listing2 .ensures .0) in
-    (w .0, w .1, p .put-listing .ensures .1)
+    (w, p .put-listing .ensures .1)
 
 pub write-listing-spec : {M : Type 1} → statement M
 write-listing-spec =

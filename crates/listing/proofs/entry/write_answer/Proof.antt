@@ -3,7 +3,7 @@ use native.Mathlib.Omega.{arith}
 use mathlib.Core.Path.{sym}
 use lib.Seq.{length-take-le}
 use Rattle.listing.proofs.Room.{number-line-size}
-use Rattle.listing.proofs.Answered.{answers-as, printed-long, word-end, printed-parts}
+use Rattle.listing.proofs.Answered.{answer-as, printed-long, word-end, printed-parts}
 use borrow.Author.Needs.{needs}
 use Rattle.listing.proofs.entry.write_answer.Statement.{statement}
 use Rattle.listing.proofs.entry.write_answer.Tie as tie
@@ -17,7 +17,7 @@ same-length c = search needs
 returns : tie.Need-returns
 returns c =
     let t = c .before .before .before .before in
-    answers-as (t .before .before .before .args .out .now) (printed-long _ (t .if1 .taken)) (c .before .before .write-refused .ensures) (number-line-size 4 (omega arith))
+    answer-as (printed-long _ (t .if1 .taken)) (c .before .before .write-refused .ensures) (number-line-size 4 (omega arith))
 
 find-requires : tie.Need-find-requires
 find-requires c κs = search needs
@@ -41,7 +41,7 @@ returns-2 c =
     let a = f .before .before .before .before .args in
     let i = a .input .now in
     let r = p .write-readings .ensures in
-    answers-as (a .out .now) (printed-parts i _ _ (f .before .if1 .left) (word-end i _ (f .find .ensures .0)) (p .before .before .after .ensures)) (r .0, r .1) (r .2)
+    answer-as (printed-parts i _ _ (f .before .if1 .left) (word-end i _ (f .find .ensures .0)) (p .before .before .after .ensures)) (r .0) (r .1)
 
 pub write-answer-spec : {M : Type 1} → statement M
 write-answer-spec =

@@ -6,7 +6,7 @@ use mathlib.Core.List.{List}
 use lib.ListN.{length}
 use Rattle.listing.specs.Texts.{refusedText, listingRoom}
 use Rattle.listing.proofs.Room.{number-line-size}
-use Rattle.listing.proofs.Answered.{answers-as, text-listed, text-refused, text-over, listed-short, refused-short}
+use Rattle.listing.proofs.Answered.{answer-as, text-listed, text-refused, text-over, listed-short, refused-short}
 use borrow.Author.Needs.{needs}
 use Rattle.listing.proofs.entry.write_readings.Statement.{statement}
 use Rattle.listing.proofs.entry.write_readings.Tie as tie
@@ -47,7 +47,7 @@ returns c =
     let s = a .sheet .now in
     let e = sym (d .analyze-affixes .ensures .0) ∙ p .before .before .enum-told .given .1 in
     let r = p .write-listing .ensures in
-    answers-as (a .out .now) (text-listed w s _ e (d .analyze-affixes .ensures .1)) (r .0, r .1) (r .2 (listed-short w s e))
+    answer-as (text-listed w s _ e (d .analyze-affixes .ensures .1)) (r .0) (r .1 (listed-short w s e))
 
 same-length-2 : tie.Need-same-length-2
 same-length-2 c = search needs
@@ -61,7 +61,7 @@ returns-2 c =
     let s = a .sheet .now in
     let e = sym (d .analyze-affixes .ensures .0) ∙ p .before .before .before .before .said .given .1 in
     let n = p .before .before .refused-of .ensures in
-    answers-as (a .out .now) (text-refused w s _ _ e n) (p .write-refused .ensures)
+    answer-as (text-refused w s _ _ e n) (p .write-refused .ensures)
     (subst (λ (x : List ℕ). length (refusedText x) ≤ listingRoom) (sym n) (refused-short w s _ e))
 
 same-length-3 : tie.Need-same-length-3
@@ -73,7 +73,7 @@ returns-3 c =
     let d = p .before .before .before .before .before in
     let a = d .before .before .before .before .args in
     let e = sym (d .analyze-affixes .ensures .0) ∙ p .before .before .enum-told2 .given .1 in
-    answers-as (a .out .now) (text-over (a .word .now) (a .sheet .now) e) (p .write-refused2 .ensures) (number-line-size 7 (omega arith))
+    answer-as (text-over (a .word .now) (a .sheet .now) e) (p .write-refused2 .ensures) (number-line-size 7 (omega arith))
 
 pub write-readings-spec : {M : Type 1} → statement M
 write-readings-spec =
