@@ -38,7 +38,7 @@ fn readings() {
 /// One row: the Rust's time for a word, the port's without the check of the sheet, their ratio, and all of the port's time against
 /// the check alone.
 fn row(name: &str, words: &[&str], sheet_of: impl Fn(&str) -> Vec<u8>) {
-    let (mut rust, mut port, mut check) = (0.0, 0.0, 0.0);
+    let (mut rust, mut port, mut check, mut stored) = (0.0, 0.0, 0.0, 0.0);
     for word in words {
         let sheet = sheet_of(word);
         let (_, forms) = acceptance::check(word.as_bytes(), &sheet).unwrap_or_else(|refusal| panic!("{word}: {refusal}"));
@@ -47,7 +47,7 @@ fn row(name: &str, words: &[&str], sheet_of: impl Fn(&str) -> Vec<u8>) {
         let code = compare::port::has_analysis(word.as_bytes(), &sheet);
         assert!(code == 7 || (code == 15) == some, "{word}: the port says {code}");
         let turns = 20;
-        let mut best = [Duration::MAX; 3];
+        let mut best = [Duration::MAX; 4];
         for _ in 0..ROUNDS {
             best[0] = best[0].min(answers::with_sheet(&forms, || {
                 time(turns, || {
@@ -60,15 +60,27 @@ fn row(name: &str, words: &[&str], sheet_of: impl Fn(&str) -> Vec<u8>) {
             best[2] = best[2].min(time(turns, || {
                 black_box(compare::port::check_sheet(black_box(&sheet)));
             }));
+            best[3] = best[3].min(time(turns, || {
+                black_box(compare::port::progressive(black_box("क".as_bytes()), black_box(&sheet)));
+            }));
         }
         let micros = |time: Duration| time.as_secs_f64() * 1e6 / turns as f64;
         rust += micros(best[0]);
         port += micros(best[1]);
         check += micros(best[2]);
+        stored += micros(best[3]);
     }
     let count = words.len() as f64;
     let rest = port - check;
-    println!("{name:>24} {:12.2} {:12.2} {:10.1} {:10.2}", rust / count, rest / count, rust / rest, port / check);
+    println!(
+        "{name:>24} {:12.2} {:12.2} {:10.1} {:10.2} {:10.2} {:10.1}",
+        rust / count,
+        rest / count,
+        rust / rest,
+        port / check,
+        stored / check,
+        rust / (port - stored)
+    );
 }
 
 /// The lines of the lexicon that answer the word's own questions.

@@ -1,0 +1,82 @@
+// The check of a word and a sheet for all that is asked of them: the sheet is read once, and the first byte of each line is stored on
+// the way.
+ghost use mathlib.Core.Path.{_≡_};
+ghost use Prim.Native.Nat.{_≤_};
+ghost use lib.ListN.{length};
+ghost use Rattle.lookup.specs.Starts.{lineLimit};
+ghost use Rattle.lookup.specs.Stored.{Stored, Prepared};
+use crate::starts::Start;
+use sheet::check::SheetCheck;
+use sheet::check::rises;
+use sheet::inputs::Inputs;
+use sheet::inputs::Refusal;
+use sheet::line::Cursor;
+use sheet::line::Line;
+use text::word::WordCheck;
+use text::word::check_word;
+
+// What is said of a sheet, and of how many lines the first byte is stored.
+pub struct Checked {
+    pub said: SheetCheck,
+    pub lines: usize,
+}
+
+// What is said of a word and a sheet together, and of how many lines the first byte is stored.
+pub struct Ready {
+    pub inputs: Inputs,
+    pub lines: usize,
+}
+
+// The check of a sheet, as `sheet::check::check_sheet` makes it. The first bytes of an accepted sheet's lines are stored at the front
+// of `out`, which has room for 6,553. Free: what is stored of a refused sheet.
+pub fn check_lines(s: &[u8], out: &mut [Start]) -> Checked
+    requires { ⌜ lineLimit ≤ length (now out) ⌝ }
+    ensures { λ r. ⌜ Stored (now (s .entry)) (now (out .entry)) (now (out .exit)) r ⌝ }
+{
+    if 65536 < s.len() {
+        return Checked {
+            said: SheetCheck::TooLong,
+            lines: 0,
+        };
+    }
+    let mut n: usize = 0;
+    let mut cursor = Cursor { at: 0 };
+    let mut from = 0;
+    let mut end = 0;
+    loop {
+        let at = cursor.at;
+        let line = cursor.step(s);
+        match line {
+            Line::End => {
+                return Checked {
+                    said: SheetCheck::Accepted,
+                    lines: n,
+                };
+            }
+            Line::NoForm => {
+                return Checked {
+                    said: SheetCheck::NoForm(at),
+                    lines: n,
+                };
+            }
+            Line::Form {
+                name_end,
+                value_end: _,
+                next,
+            } => {
+                let first = at + 1;
+                if !rises(s, from, end, first, name_end) {
+                    return Checked {
+                        said: SheetCheck::NotAbove(at),
+                        lines: n,
+                    };
+                }
+                out[n] = at as Start;
+                n += 1;
+                from = first;
+                end = name_end;
+                cursor = next;
+            }
+        }
+    }
+}
