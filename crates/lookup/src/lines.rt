@@ -4,7 +4,7 @@ ghost use mathlib.Core.Path.{_≡_};
 ghost use Prim.Native.Nat.{_≤_};
 ghost use lib.ListN.{length};
 ghost use Rattle.lookup.specs.Starts.{lineLimit};
-ghost use Rattle.lookup.specs.Stored.{Stored, Prepared};
+ghost use Rattle.lookup.specs.Stored.{Stored, SheetReady, Prepared};
 use crate::starts::Start;
 use sheet::check::SheetCheck;
 use sheet::check::rises;
@@ -78,5 +78,57 @@ pub fn check_lines(s: &[u8], out: &mut [Start]) -> Checked
                 cursor = next;
             }
         }
+    }
+}
+
+// What is said of a sheet with a word that is accepted.
+fn sheet_ready(sheet: &[u8], out: &mut [Start]) -> Ready
+    requires { ⌜ lineLimit ≤ length (now out) ⌝ }
+    ensures { λ r. ⌜ SheetReady (now (sheet .entry)) (now (out .entry)) (now (out .exit)) r ⌝ }
+{
+    let checked = check_lines(sheet, out);
+    let lines = checked.lines;
+    let said = checked.said;
+    match said {
+        SheetCheck::Accepted => Ready {
+            inputs: Inputs::Accepted,
+            lines,
+        },
+        SheetCheck::TooLong => Ready {
+            inputs: Inputs::Refused(Refusal::SheetTooLong),
+            lines,
+        },
+        SheetCheck::NoForm(at) => Ready {
+            inputs: Inputs::Refused(Refusal::SheetNoForm(at)),
+            lines,
+        },
+        SheetCheck::NotAbove(at) => Ready {
+            inputs: Inputs::Refused(Refusal::SheetNotAbove(at)),
+            lines,
+        },
+    }
+}
+
+// Whether word and sheet are accepted, as `sheet::inputs::check_inputs` says it. The first bytes of an accepted sheet's lines are
+// stored at the front of `out`, which has room for 6,553. Free: what is stored where word or sheet is refused.
+pub fn prepare(word: &[u8], sheet: &[u8], out: &mut [Start]) -> Ready
+    requires { ⌜ lineLimit ≤ length (now out) ⌝ }
+    ensures { λ r. ⌜ Prepared (now (word .entry)) (now (sheet .entry)) (now (out .entry)) (now (out .exit)) r ⌝ }
+{
+    let said = check_word(word);
+    match said {
+        WordCheck::TooLong => Ready {
+            inputs: Inputs::Refused(Refusal::WordTooLong),
+            lines: 0,
+        },
+        WordCheck::NotUtf8 => Ready {
+            inputs: Inputs::Refused(Refusal::WordNotUtf8),
+            lines: 0,
+        },
+        WordCheck::Forbidden => Ready {
+            inputs: Inputs::Refused(Refusal::WordForbidden),
+            lines: 0,
+        },
+        WordCheck::Accepted => sheet_ready(sheet, out),
     }
 }
