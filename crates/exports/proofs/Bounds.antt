@@ -38,6 +38,10 @@ use Rattle.progressive.specs.declared.entry.Supported.the-variants as supports
 use Rattle.progressive.specs.Progressive.{Outcome, no, yes, progressiveOf}
 use Rattle.progressive.specs.Found.{formOf}
 use Rattle.progressive.specs.Answers.{answerIf, answerOf, Lies, Analyzed, supportedIf, supportedOf}
+use Rattle.ranking.specs.Lists.{Rows, rows, over}
+use Rattle.analysis.specs.Answers.{collected, saidBy, saidOf, rowsGiven, isSome, hasBy, hasOf}
+use Rattle.analysis.specs.declared.entry.Has.{Has}
+use Rattle.analysis.specs.declared.entry.Has.the-variants as has
 use Rattle.origin.specs.Answers.{decisionIf, decisionAnswer}
 use Rattle.origin.specs.declared.entries.DecisionAnswer.{DecisionAnswer}
 use Rattle.origin.specs.declared.entries.DecisionAnswer.the-variants as decisions
@@ -133,3 +137,20 @@ decision-placed w s = by (inputsOf w s) refl
 
 pub decision-refused : (w s : List ℕ) (d : DecisionAnswer) (r : Refusal) → d ≡ decisionAnswer w s → d ≡ decisions.Refused r → Placed r
 decision-refused w s d r e f = subst PlacedBy (sym e ∙ f) (decision-placed w s)
+
+abbrev PlacedHas : Has → Type 0
+PlacedHas (has.Given b) = Unit {0}
+PlacedHas (has.Refused r) = Placed r
+PlacedHas has.TooMany = Unit {0}
+
+has-placed : (w s : List ℕ) → PlacedHas (hasOf w s)
+unfolding hasOf saidOf
+has-placed w s = by (inputsOf w s) refl (collected w s)
+  where
+    by : (i : Inputs) → inputsOf w s ≡ i → (c : Rows) → PlacedHas (hasBy (saidBy i c) (isSome (rowsGiven w s)))
+    by inputs.Accepted e (rows rs) = tt
+    by inputs.Accepted e over = tt
+    by (inputs.Refused r) e c = refused-placed w s r e
+
+pub has-refused : (w s : List ℕ) (d : Has) (r : Refusal) → d ≡ hasOf w s → d ≡ has.Refused r → Placed r
+has-refused w s d r e f = subst PlacedHas (sym e ∙ f) (has-placed w s)

@@ -15,6 +15,9 @@ use Rattle.progressive.specs.declared.entry.Answer.{Answer}
 use Rattle.progressive.specs.declared.entry.Answer.the-variants as answers
 use Rattle.progressive.specs.declared.entry.Supported.{Supported}
 use Rattle.progressive.specs.declared.entry.Supported.the-variants as supports
+use Rattle.analysis.specs.Answers.{hasNumbers}
+use Rattle.analysis.specs.declared.entry.Has.{Has}
+use Rattle.analysis.specs.declared.entry.Has.the-variants as has
 use Rattle.origin.specs.Decisions.{none}
 use Rattle.origin.specs.declared.OriginSource.{OriginSource}
 use Rattle.origin.specs.declared.OriginSource.the-variants.{Override, Kosha, Heuristic, Unknown}
@@ -54,6 +57,12 @@ progressiveCode (answers.Given form) = formCode form
 abbrev pub supportedCode : Supported → ℕ
 supportedCode (supports.Refused r) = refusalCode r
 supportedCode (supports.Given b) = pick b 15 0
+
+-- the same of readings, of which there may be more than 64
+abbrev pub hasCode : Has → ℕ
+hasCode (has.Given b) = pick b 15 0
+hasCode (has.Refused r) = refusalCode r
+hasCode has.TooMany = coded (hasNumbers has.TooMany)
 
 abbrev pub originNumber : Origin → ℕ
 originNumber Tatsam = 0

@@ -1,4 +1,6 @@
 // The static library's functions: what Rust and C call. They take numbers and slices of numbers alone.
+use analysis::entry::Has;
+use analysis::entry::has_supported_analysis;
 use origin::OriginDecision;
 use origin::OriginSource;
 use origin::entries::DecisionAnswer;
@@ -21,7 +23,8 @@ ghost use Rattle.sheet.specs.Lines.{sheetCheck, sheetLimit};
 ghost use Rattle.sheet.specs.Inputs.{Placed};
 ghost use Rattle.progressive.specs.Answers.{answerOf, supportedOf};
 ghost use Rattle.origin.specs.Answers.{decisionAnswer};
-ghost use Rattle.exports.specs.Codes.{sheetCode, refusalCode, formCode, progressiveCode, supportedCode, originNumber, sourceNumber, originCode, confidenceOf};
+ghost use Rattle.analysis.specs.Answers.{hasOf};
+ghost use Rattle.exports.specs.Codes.{sheetCode, refusalCode, formCode, progressiveCode, supportedCode, hasCode, originNumber, sourceNumber, originCode, confidenceOf};
 
 // 0 for a word that is accepted, else document 01's number: 1, 2 or 3.
 #[no_mangle]
@@ -107,6 +110,24 @@ pub extern "C" fn yunthirel_has_progressive(word: &[u8], sheet: &[u8]) -> u64
         Supported::Refused(refusal) => refusal_code(refusal),
         Supported::Given(supported) => {
             if supported {
+                return 15;
+            }
+            0
+        }
+    }
+}
+
+// 15 where the word has a reading, 0 where it has none, 7 where it has more than 64; else the refusal, as `refusal_code` gives it.
+#[no_mangle]
+pub extern "C" fn yunthirel_has_analysis(word: &[u8], sheet: &[u8]) -> u64
+    ensures { λ r. ⌜ r ≡ hasCode (hasOf (now (word .entry)) (now (sheet .entry))) ⌝ }
+{
+    let answer = has_supported_analysis(word, sheet);
+    match answer {
+        Has::Refused(refusal) => refusal_code(refusal),
+        Has::TooMany => 7,
+        Has::Given(some) => {
+            if some {
                 return 15;
             }
             0

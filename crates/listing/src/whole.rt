@@ -23,7 +23,7 @@ pub fn answer_of(input: &[u8], out: &mut [u8; 65536]) -> usize
 {
     let written = write_answer(input, out);
     match written {
-        Written::Bytes(n) => n,
+        Written::Bytes(size) => size,
         Written::TooShort => 0,
     }
 }

@@ -2,6 +2,7 @@
 
 pub mod options;
 pub mod port;
+pub mod words;
 
 use acceptance::Refusal;
 use blocks::Case;
@@ -35,6 +36,11 @@ pub const QUESTIONS: &[Question] = &[
         name: "has_progressive",
         oracle: |case| text(&answers::has_progressive(&case.word, &case.sheet)).trim_end().to_string(),
         port: |case| has_progressive(port::has_progressive(&case.word, &case.sheet)),
+    },
+    Question {
+        name: "has_analysis",
+        oracle: |case| text(&answers::has_analysis(&case.word, &case.sheet)).trim_end().to_string(),
+        port: |case| has_analysis(port::has_analysis(&case.word, &case.sheet)),
     },
     Question {
         name: "origin",
@@ -93,6 +99,16 @@ fn has_progressive(code: u64) -> String {
     match code {
         0 => "has_progressive no".to_string(),
         15 => "has_progressive yes".to_string(),
+        _ => refusal(code),
+    }
+}
+
+/// The port's yes, no or 7, written as the oracle does.
+fn has_analysis(code: u64) -> String {
+    match code {
+        0 => "has_analysis no".to_string(),
+        7 => "(refused 7)".to_string(),
+        15 => "has_analysis yes".to_string(),
         _ => refusal(code),
     }
 }

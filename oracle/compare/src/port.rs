@@ -17,6 +17,8 @@ mod foreign {
         pub fn yunthirel_progressive(word: *const u8, word_len: usize, sheet: *const u8, sheet_len: usize) -> u64;
         /// The refusal as above; 0 for no supported progressive form, 15 for one.
         pub fn yunthirel_has_progressive(word: *const u8, word_len: usize, sheet: *const u8, sheet_len: usize) -> u64;
+        /// The refusal as above; 0 for a word without readings, 15 for one with some, 7 for more than 64.
+        pub fn yunthirel_has_analysis(word: *const u8, word_len: usize, sheet: *const u8, sheet_len: usize) -> u64;
         /// The refusal as above; else 0 in the lowest four bits, then origin (2 bits) and source (2).
         pub fn yunthirel_origin(word: *const u8, word_len: usize, sheet: *const u8, sheet_len: usize) -> u64;
         /// The confidence of the origin; 0.0 for a refusal.
@@ -42,6 +44,11 @@ pub fn progressive(word: &[u8], sheet: &[u8]) -> u64 {
 pub fn has_progressive(word: &[u8], sheet: &[u8]) -> u64 {
     // SAFETY: as above.
     unsafe { foreign::yunthirel_has_progressive(word.as_ptr(), word.len(), sheet.as_ptr(), sheet.len()) }
+}
+
+pub fn has_analysis(word: &[u8], sheet: &[u8]) -> u64 {
+    // SAFETY: as above.
+    unsafe { foreign::yunthirel_has_analysis(word.as_ptr(), word.len(), sheet.as_ptr(), sheet.len()) }
 }
 
 pub fn origin(word: &[u8], sheet: &[u8]) -> u64 {
