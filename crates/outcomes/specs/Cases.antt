@@ -5,8 +5,8 @@ use mathlib.Core.Bool.{true, false}
 use mathlib.Core.List.{List, [], _∷_, _++_}
 use Rattle.sheet.specs.Forms.{written}
 use Rattle.ranking.specs.declared.AffixKind.the-variants.{CaseMarker}
-use Rattle.worked.specs.Words.{ghar, gharle, le, nihshulk, shulk, nir, nis, amanav, manav, a, asaphal, saphal, khairaheko, nakhairaheko, khai, nakhai, khanu, rahanu, gariraheko, gari, garnu, garanu}
-use Rattle.worked.specs.Outcomes.{Question, readings, progressive, Suffix, Row, Outcome, list, form, noForm}
+use Rattle.outcomes.specs.Words.{ghar, gharle, le, nihshulk, shulk, nir, nis, amanav, manav, a, asaphal, saphal, khairaheko, nakhairaheko, khai, nakhai, khanu, rahanu, gariraheko, gari, garnu, garanu}
+use Rattle.outcomes.specs.Outcomes.{Question, readings, progressive, Suffix, Row, Outcome, list, form, noForm}
 
 -- a line of a sheet, with its 0A
 abbrev pub lineOf : ℕ → List ℕ → List ℕ → List ℕ

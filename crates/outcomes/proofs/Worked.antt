@@ -24,9 +24,9 @@ use Rattle.ranking.specs.Lists.{ranked, plus, plusAll}
 use Rattle.paths.specs.Support.{knownWith, isSupported, scoreOf}
 use Rattle.paths.specs.Walk.{rootWalk, overForms, secondWalk, stemWalk, rowsWalk, pieceWalk}
 use Rattle.analysis.specs.Answers.{saidOf, rowsGiven}
-use Rattle.worked.specs.Words.{ghar, gharle, le, nihshulk, shulk, nir, nis, amanav, manav, a, asaphal, saphal, khairaheko, nakhairaheko, khai, nakhai, khanu, rahanu, gariraheko, gari, garnu, garanu}
-use Rattle.worked.specs.Outcomes.{Outcome, outcomeOf}
-use Rattle.worked.specs.Cases.{Case, cases}
+use Rattle.outcomes.specs.Words.{ghar, gharle, le, nihshulk, shulk, nir, nis, amanav, manav, a, asaphal, saphal, khairaheko, nakhairaheko, khai, nakhai, khanu, rahanu, gariraheko, gari, garnu, garanu}
+use Rattle.outcomes.specs.Outcomes.{Outcome, outcomeOf}
+use Rattle.outcomes.specs.Cases.{Case, cases}
 
 pub worked : map (λ (c : Case). outcomeOf (c .asked)) cases ≡ map (λ (c : Case). c .outcome) cases
 unfolding within utf8Char opened after run isUtf8 opens chars forbidden nameRun holdsForbidden wordCheck prefixLabels prefixForms pluralMarkers
