@@ -1,0 +1,78 @@
+-- What is asked in document 01's worked cases, and how an outcome is said there: by texts, labels and kinds. Assumes nothing.
+use Prim.Native.Nat.{ℕ}
+use mathlib.Core.Bool.{Bool, true, false}
+use mathlib.Core.List.{List, [], _∷_, map}
+use lib.ListN.{take, getD}
+use Rattle.runs.specs.Runs.{pick}
+use Rattle.tables.specs.Rows.{prefixLabels}
+use Rattle.tables.specs.Tables.{affixes}
+use Rattle.ranking.specs.Parts.{part}
+use Rattle.ranking.specs.Rank.{rootText}
+use Rattle.ranking.specs.declared.AffixKind.{AffixKind}
+use Rattle.ranking.specs.declared.Segment.{Segment}
+use Rattle.ranking.specs.declared.Reading.{Reading}
+use Rattle.progressive.specs.declared.find.Progressive.{Progressive}
+use Rattle.progressive.specs.declared.entry.Answer.{Answer}
+use Rattle.progressive.specs.declared.entry.Answer.the-variants as answers
+use Rattle.progressive.specs.Answers.{answerOf, answerNumbers, lemmaPart}
+use Rattle.analysis.specs.declared.entry.Said.{Said}
+use Rattle.analysis.specs.declared.entry.Said.the-variants.{Listed, Refused, TooMany}
+use Rattle.analysis.specs.Answers.{saidOf, rowsGiven, saidNumbers}
+
+-- what is asked of a word and a sheet: its readings, or its progressive form
+pub data Question : Type 0 where
+  readings : List ℕ → List ℕ → Question
+  progressive : List ℕ → List ℕ → Question
+
+-- a suffix: its label and its kind
+pub record Suffix : Type 0 where
+  pub label : List ℕ
+  pub kind : AffixKind
+
+-- a row of the list: stem, root, prefix labels, label and kind of each suffix, score
+pub record Row : Type 0 where
+  pub stem : List ℕ
+  pub root : List ℕ
+  pub prefixes : List (List ℕ)
+  pub suffixes : List Suffix
+  pub score : ℕ
+
+-- an outcome: the rows of the list; a progressive form, by its main form, whether it is negative, and its lemma; no progressive
+-- form; or a refusal by its numbers
+pub data Outcome : Type 0 where
+  list : List Row → Outcome
+  form : List ℕ → Bool → List ℕ → Outcome
+  noForm : Outcome
+  refused : List ℕ → Outcome
+
+abbrev pub suffixOf : Segment → Suffix
+suffixOf s = record { label = getD affixes (s .label) []; kind = s .kind }
+
+abbrev pub labelOf : ℕ → List ℕ
+labelOf row = getD prefixLabels row []
+
+-- a reading of w as a row
+abbrev pub rowOf : List ℕ → Reading → Row
+rowOf w r = record {
+  stem = part w 0 (r .stem);
+  root = rootText w r;
+  prefixes = map labelOf (take (r .«prefix_count») (r .prefixes));
+  suffixes = map suffixOf (take (r .«suffix_count») (r .segments));
+  score = r .score;
+}
+
+-- what the core call says and gives of the word w
+abbrev pub listOf : List ℕ → Said → List Reading → Outcome
+listOf w Listed rs = list (map (rowOf w) rs)
+listOf w (Refused r) rs = refused (saidNumbers (Refused r))
+listOf w TooMany rs = refused (saidNumbers TooMany)
+
+-- what the analysis of a progressive form gives of the word w and the sheet s
+abbrev pub formOf : List ℕ → List ℕ → Answer → Outcome
+formOf w s (answers.Refused r) = refused (answerNumbers (answers.Refused r))
+formOf w s (answers.Given p) = pick (p .found) (form (part w 0 (p .«main_end»)) (p .negative) (lemmaPart s (answers.Given p))) noForm
+
+-- the outcome of a question
+abbrev pub outcomeOf : Question → Outcome
+outcomeOf (readings w s) = listOf w (saidOf w s) (rowsGiven w s)
+outcomeOf (progressive w s) = formOf w s (answerOf w s)
