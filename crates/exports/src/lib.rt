@@ -132,10 +132,10 @@ pub extern "C" fn yunthirel_has_analysis(word: &[u8], sheet: &[u8]) -> u64
         Has::Refused(refusal) => refusal_code(refusal),
         Has::TooMany => 7,
         Has::Given(some) => {
-            if some {
-                return 15;
+            if !some {
+                return 0;
             }
-            0
+            15
         }
     }
 }

@@ -1,5 +1,6 @@
 -- `exports::yunthirel_has_analysis` meets its contract, answer by answer: the place of a refusal is small enough. Assumes nothing.
 use borrow.Author.Needs.{needs}
+use borrow.Author.Tests.{not-true, not-false}
 use mathlib.Core.Path.{sym, ap, _∙_}
 use mathlib.Core.Bool.{Bool}
 use Prim.Native.Nat.{ℕ}
@@ -33,7 +34,7 @@ number b = pick b 15 0
 
 returns : tie.Need-returns
 returns c =
-    ap number (sym (c .if1 .taken)) ∙ ap hasCode (sym (c .before .before .answer2 .given .1) ∙ c .before .before .before .before .has-supported-analysis .ensures)
+    ap number (sym (not-true (c .before .before .answer2 .given .0 .0) (c .if1 .taken))) ∙ ap hasCode (sym (c .before .before .answer2 .given .1) ∙ c .before .before .before .before .has-supported-analysis .ensures)
 
 returns-2 : tie.Need-returns-2
 returns-2 c =
@@ -44,7 +45,7 @@ returns-3 c = ap hasCode (sym (c .enum-told .given .1) ∙ c .before .before .ha
 
 returns-4 : tie.Need-returns-4
 returns-4 c =
-    ap number (sym (c .if1 .left)) ∙ ap hasCode (sym (c .before .before .answer2 .given .1) ∙ c .before .before .before .before .has-supported-analysis .ensures)
+    ap number (sym (not-false (c .before .before .answer2 .given .0 .0) (c .if1 .left))) ∙ ap hasCode (sym (c .before .before .answer2 .given .1) ∙ c .before .before .before .before .has-supported-analysis .ensures)
 
 pub yunthirel-has-analysis-spec : {M : Type 1} → statement M
 yunthirel-has-analysis-spec =
