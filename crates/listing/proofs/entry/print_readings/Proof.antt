@@ -1,6 +1,7 @@
 -- `entry::print_readings` meets its contract, outcome by outcome: a refusal has left the buffer as it was. Assumes nothing.
 use mathlib.Core.Path.{sym, _∙_}
-use Rattle.listing.proofs.Answered.{answer-over, text-refused, text-over, printed-bytes, printed-short, refused-left, over-left}
+use Rattle.listing.proofs.Answered.{answer-over}
+use Rattle.listing.proofs.Told.{text-refused, text-over, printed-bytes, printed-short, refused-left, over-left}
 use borrow.Author.Needs.{needs}
 use Rattle.listing.proofs.entry.print_readings.Statement.{statement}
 use Rattle.listing.proofs.entry.print_readings.Tie as tie

@@ -6,7 +6,7 @@ use lib.ListN.{length}
 use Rattle.analysis.specs.declared.entry.Said.the-variants.{Listed}
 use Rattle.listing.specs.Texts.{listingRoom}
 use Rattle.listing.specs.Printed.{outcomeBy, outcomeOf, leftOf, readingsText}
-use Rattle.listing.proofs.Answered.{gives-refused, gives-over, gives-listed}
+use Rattle.listing.proofs.Told.{gives-refused, gives-over, gives-listed}
 use borrow.Author.Needs.{needs}
 use Rattle.listing.proofs.entry.write_readings.Statement.{statement}
 use Rattle.listing.proofs.entry.write_readings.Tie as tie
