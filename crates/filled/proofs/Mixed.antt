@@ -22,14 +22,3 @@ module _ {A : Type 0} where
   mixed-length [] ys (suc i) h k = absurd (not-suc-le-zero h)
   mixed-length (x ∷ xs) [] (suc i) h k = absurd (not-suc-le-zero k)
   mixed-length (x ∷ xs) (y ∷ ys) (suc i) h k = ap suc (mixed-length xs ys i (le-of-suc-le-suc h) (le-of-suc-le-suc k))
-
-  pub taken-length : (xs : List A) (n : ℕ) → n ≤ length xs → length (take n xs) ≡ n
-  taken-length xs zero h = refl
-  taken-length [] (suc n) h = absurd (not-suc-le-zero h)
-  taken-length (x ∷ xs) (suc n) h = ap suc (taken-length xs n (le-of-suc-le-suc h))
-
-  pub taken-all : (xs : List A) (n : ℕ) → length xs ≤ n → take n xs ≡ xs
-  taken-all [] zero h = refl
-  taken-all [] (suc n) h = refl
-  taken-all (x ∷ xs) zero h = absurd (not-suc-le-zero h)
-  taken-all (x ∷ xs) (suc n) h = ap (λ (l : List A). x ∷ l) (taken-all xs n (le-of-suc-le-suc h))
