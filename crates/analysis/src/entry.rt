@@ -1,7 +1,7 @@
 // The core call and the two beside it: a word and a sheet lent, each tested before anything is asked, the list by value.
 use crate::suffixes::visit;
+use lookup::lines::prepare;
 use lookup::starts::Start;
-use lookup::starts::fill_starts;
 use paths::Chain;
 use ranking::AffixKind;
 use ranking::Found;
@@ -11,7 +11,6 @@ use ranking::Segment;
 use ranking::nothing;
 use sheet::inputs::Inputs;
 use sheet::inputs::Refusal;
-use sheet::inputs::check_inputs;
 ghost use mathlib.Core.Path.{_≡_};
 ghost use mathlib.Core.List.{[], _∷_};
 ghost use lib.ListN.{take};
@@ -19,8 +18,7 @@ ghost use lib.Dec.{ltb};
 ghost use Rattle.runs.specs.Runs.{pick};
 ghost use Rattle.text.specs.Word.{wordCheck};
 ghost use Rattle.text.specs.declared.word.WordCheck.the-variants.{Accepted};
-ghost use Rattle.sheet.specs.Lines.{sheetCheck};
-ghost use Rattle.sheet.specs.declared.check.SheetCheck.the-variants.{Accepted as SheetAccepted};
+ghost use Rattle.sheet.specs.Replies.{Indexed};
 ghost use Rattle.ranking.specs.Lists.{foundOf, rowsOf};
 ghost use Rattle.analysis.specs.Answers.{collected, byRows, listedRows, saidOf, rowsGiven, bestRows, hasOf};
 
@@ -62,12 +60,10 @@ fn refused(said: Said) -> Analysis
 }
 
 // All readings of an accepted word under an accepted sheet, or that there are more than 64.
-fn collect(word: &[u8], sheet: &[u8]) -> Found
-    requires { ⌜ (wordCheck (now word) ≡ Accepted) × (sheetCheck (now sheet) ≡ SheetAccepted) ⌝ }
+fn collect(word: &[u8], sheet: &[u8], starts: &[Start]) -> Found
+    requires { ⌜ (wordCheck (now word) ≡ Accepted) × Indexed (now sheet) (now starts) ⌝ }
     ensures { λ r. ⌜ foundOf r ≡ collected (now (word .entry)) (now (sheet .entry)) ⌝ }
 {
-    let mut starts: [Start; 6554] = [0; 6554];
-    let n = fill_starts(sheet, &mut starts);
     let texts = tables::affixes();
     let cuts = tables::affix_starts();
     let forms = tables::prefix_forms();
@@ -84,7 +80,7 @@ fn collect(word: &[u8], sheet: &[u8]) -> Found
     visit(
         word,
         sheet,
-        &starts[..n],
+        starts,
         &texts,
         &cuts,
         &forms,
@@ -98,11 +94,11 @@ fn collect(word: &[u8], sheet: &[u8]) -> Found
 }
 
 // What is given where word and sheet are accepted: the list, or that there are too many.
-fn listed(word: &[u8], sheet: &[u8]) -> Analysis
-    requires { ⌜ (wordCheck (now word) ≡ Accepted) × (sheetCheck (now sheet) ≡ SheetAccepted) ⌝ }
+fn listed(word: &[u8], sheet: &[u8], starts: &[Start]) -> Analysis
+    requires { ⌜ (wordCheck (now word) ≡ Accepted) × Indexed (now sheet) (now starts) ⌝ }
     ensures { λ r. ⌜ (r .said ≡ byRows (collected (now (word .entry)) (now (sheet .entry)))) × (rowsOf (r .list) ≡ listedRows (collected (now (word .entry)) (now (sheet .entry)))) ⌝ }
 {
-    let found = collect(word, sheet);
+    let found = collect(word, sheet, starts);
     if found.over {
         return refused(Said::TooMany);
     }
@@ -118,10 +114,13 @@ fn listed(word: &[u8], sheet: &[u8]) -> Analysis
 pub fn analyze_affixes(word: &[u8], sheet: &[u8]) -> Analysis
     ensures { λ r. ⌜ (r .said ≡ saidOf (now (word .entry)) (now (sheet .entry))) × (rowsOf (r .list) ≡ rowsGiven (now (word .entry)) (now (sheet .entry))) ⌝ }
 {
-    let inputs = check_inputs(word, sheet);
+    let mut starts: [Start; 6554] = [0; 6554];
+    let ready = prepare(word, sheet, &mut starts);
+    let lines = ready.lines;
+    let inputs = ready.inputs;
     match inputs {
         Inputs::Refused(refusal) => refused(Said::Refused(refusal)),
-        Inputs::Accepted => listed(word, sheet),
+        Inputs::Accepted => listed(word, sheet, &starts[..lines]),
     }
 }
 

@@ -38,6 +38,17 @@ use Rattle.progressive.specs.declared.entry.Supported.the-variants as supports
 use Rattle.progressive.specs.Progressive.{Outcome, no, yes, progressiveOf}
 use Rattle.progressive.specs.Found.{formOf}
 use Rattle.progressive.specs.Answers.{answerIf, answerOf, Lies, Analyzed, supportedIf, supportedOf}
+use Rattle.ranking.specs.Lists.{Rows, rows, over}
+use Rattle.analysis.specs.Answers.{collected, saidBy, saidOf, rowsGiven, isSome, hasBy, hasOf}
+use Rattle.analysis.specs.declared.entry.Has.{Has}
+use Rattle.analysis.specs.declared.entry.Has.the-variants as has
+use Rattle.analysis.specs.declared.entry.Said.{Said}
+use Rattle.analysis.specs.declared.entry.Said.the-variants as said
+use Rattle.listing.specs.Texts.{listingRoom}
+use Rattle.listing.specs.Placed.{writtenOf}
+use Rattle.listing.specs.declared.Written.{Written}
+use Rattle.listing.specs.declared.Written.the-variants.{Bytes, TooShort}
+use Rattle.exports.specs.Codes.{FewBytes}
 use Rattle.origin.specs.Answers.{decisionIf, decisionAnswer}
 use Rattle.origin.specs.declared.entries.DecisionAnswer.{DecisionAnswer}
 use Rattle.origin.specs.declared.entries.DecisionAnswer.the-variants as decisions
@@ -133,3 +144,46 @@ decision-placed w s = by (inputsOf w s) refl
 
 pub decision-refused : (w s : List ℕ) (d : DecisionAnswer) (r : Refusal) → d ≡ decisionAnswer w s → d ≡ decisions.Refused r → Placed r
 decision-refused w s d r e f = subst PlacedBy (sym e ∙ f) (decision-placed w s)
+
+abbrev PlacedHas : Has → Type 0
+PlacedHas (has.Given b) = Unit {0}
+PlacedHas (has.Refused r) = Placed r
+PlacedHas has.TooMany = Unit {0}
+
+has-placed : (w s : List ℕ) → PlacedHas (hasOf w s)
+unfolding hasOf saidOf
+has-placed w s = by (inputsOf w s) refl (collected w s)
+  where
+    by : (i : Inputs) → inputsOf w s ≡ i → (c : Rows) → PlacedHas (hasBy (saidBy i c) (isSome (rowsGiven w s)))
+    by inputs.Accepted e (rows rs) = tt
+    by inputs.Accepted e over = tt
+    by (inputs.Refused r) e c = refused-placed w s r e
+
+pub has-refused : (w s : List ℕ) (d : Has) (r : Refusal) → d ≡ hasOf w s → d ≡ has.Refused r → Placed r
+has-refused w s d r e f = subst PlacedHas (sym e ∙ f) (has-placed w s)
+
+-- the same of what is said of a list of readings; where it is given, the word is short
+abbrev PlacedSaid : List ℕ → Said → Type 0
+PlacedSaid w said.Listed = length w ≤ wordLimit
+PlacedSaid w (said.Refused r) = Placed r
+PlacedSaid w said.TooMany = Unit {0}
+
+said-placed : (w s : List ℕ) → PlacedSaid w (saidOf w s)
+unfolding saidOf
+said-placed w s = by (inputsOf w s) refl (collected w s)
+  where
+    by : (i : Inputs) → inputsOf w s ≡ i → (c : Rows) → PlacedSaid w (saidBy i c)
+    by inputs.Accepted e (rows rs) = word-short w (accepted-each w s e .0)
+    by inputs.Accepted e over = tt
+    by (inputs.Refused r) e c = refused-placed w s r e
+
+pub said-small : (w s : List ℕ) (d x : Said) → d ≡ saidOf w s → d ≡ x → PlacedSaid w x
+said-small w s d x e f = subst (PlacedSaid w) (sym e ∙ f) (said-placed w s)
+
+-- a text that is written has no more bytes than the longest list
+pub written-small : (text out : List ℕ) (r : Written) → r ≡ writtenOf text out → length text ≤ listingRoom → FewBytes r
+written-small text out r e h = subst FewBytes (sym e) (by (leb (length text) (length out)))
+  where
+    by : (b : Bool) → FewBytes (pick b (Bytes (length text)) TooShort)
+    by true = h
+    by false = tt

@@ -1,6 +1,6 @@
 -- How the static library's functions give their answers as numbers: document 01's number of a refusal in the lowest four bits, and
 -- above them, for 5 and 6, the first byte of the faulty line; an origin stands above them too, and a form has 15 in them, which is no refusal's number. Assumes nothing.
-use Prim.Native.Nat.{ℕ, _+_, _*_}
+use Prim.Native.Nat.{ℕ, _+_, _*_, _≤_}
 use mathlib.Core.Bool.{Bool, true, false}
 use mathlib.Core.List.{List, [], _∷_}
 use lib.Ieee.{Float}
@@ -15,6 +15,15 @@ use Rattle.progressive.specs.declared.entry.Answer.{Answer}
 use Rattle.progressive.specs.declared.entry.Answer.the-variants as answers
 use Rattle.progressive.specs.declared.entry.Supported.{Supported}
 use Rattle.progressive.specs.declared.entry.Supported.the-variants as supports
+use Rattle.listing.specs.Texts.{listingRoom}
+use Rattle.listing.specs.Placed.{writtenOf, filled, writtenNumber}
+use Rattle.listing.specs.declared.Written.{Written}
+use Rattle.listing.specs.declared.Written.the-variants.{Bytes, TooShort}
+use Rattle.analysis.specs.declared.entry.Said.{Said}
+use Rattle.analysis.specs.declared.entry.Said.the-variants as said
+use Rattle.analysis.specs.Answers.{saidNumbers, hasNumbers}
+use Rattle.analysis.specs.declared.entry.Has.{Has}
+use Rattle.analysis.specs.declared.entry.Has.the-variants as has
 use Rattle.origin.specs.Decisions.{none}
 use Rattle.origin.specs.declared.OriginSource.{OriginSource}
 use Rattle.origin.specs.declared.OriginSource.the-variants.{Override, Kosha, Heuristic, Unknown}
@@ -54,6 +63,33 @@ progressiveCode (answers.Given form) = formCode form
 abbrev pub supportedCode : Supported → ℕ
 supportedCode (supports.Refused r) = refusalCode r
 supportedCode (supports.Given b) = pick b 15 0
+
+-- the same of readings, of which there may be more than 64
+abbrev pub hasCode : Has → ℕ
+hasCode (has.Given b) = pick b 15 0
+hasCode (has.Refused r) = refusalCode r
+hasCode has.TooMany = coded (hasNumbers has.TooMany)
+
+-- a text that was written, by its bytes, or that the buffer is shorter
+abbrev pub writtenCode : Written → ℕ
+writtenCode (Bytes n) = 16 * n
+writtenCode TooShort = writtenNumber TooShort
+
+-- so few bytes that the code fits
+abbrev pub FewBytes : Written → Type 0
+FewBytes (Bytes n) = n ≤ listingRoom
+FewBytes TooShort = Unit {0}
+
+-- the list of readings as a text, or why it is not written; and what the buffer holds then
+abbrev pub readingsCode : Said → List ℕ → List ℕ → ℕ
+readingsCode said.Listed text out = writtenCode (writtenOf text out)
+readingsCode (said.Refused r) text out = refusalCode r
+readingsCode said.TooMany text out = coded (saidNumbers said.TooMany)
+
+abbrev pub readingsLeft : Said → List ℕ → List ℕ → List ℕ
+readingsLeft said.Listed text out = filled text out
+readingsLeft (said.Refused r) text out = out
+readingsLeft said.TooMany text out = out
 
 abbrev pub originNumber : Origin → ℕ
 originNumber Tatsam = 0

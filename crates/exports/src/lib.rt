@@ -1,4 +1,10 @@
 // The static library's functions: what Rust and C call. They take numbers and slices of numbers alone.
+use analysis::entry::Has;
+use analysis::entry::Said;
+use analysis::entry::analyze_affixes;
+use analysis::entry::has_supported_analysis;
+use listing::Written;
+use listing::write_listing;
 use origin::OriginDecision;
 use origin::OriginSource;
 use origin::entries::DecisionAnswer;
@@ -21,7 +27,9 @@ ghost use Rattle.sheet.specs.Lines.{sheetCheck, sheetLimit};
 ghost use Rattle.sheet.specs.Inputs.{Placed};
 ghost use Rattle.progressive.specs.Answers.{answerOf, supportedOf};
 ghost use Rattle.origin.specs.Answers.{decisionAnswer};
-ghost use Rattle.exports.specs.Codes.{sheetCode, refusalCode, formCode, progressiveCode, supportedCode, originNumber, sourceNumber, originCode, confidenceOf};
+ghost use Rattle.analysis.specs.Answers.{saidOf, rowsGiven, hasOf};
+ghost use Rattle.listing.specs.Texts.{listingText};
+ghost use Rattle.exports.specs.Codes.{sheetCode, refusalCode, formCode, progressiveCode, supportedCode, hasCode, FewBytes, writtenCode, readingsCode, readingsLeft, originNumber, sourceNumber, originCode, confidenceOf};
 
 // 0 for a word that is accepted, else document 01's number: 1, 2 or 3.
 #[no_mangle]
@@ -111,6 +119,53 @@ pub extern "C" fn yunthirel_has_progressive(word: &[u8], sheet: &[u8]) -> u64
             }
             0
         }
+    }
+}
+
+// 15 where the word has a reading, 0 where it has none, 7 where it has more than 64; else the refusal, as `refusal_code` gives it.
+#[no_mangle]
+pub extern "C" fn yunthirel_has_analysis(word: &[u8], sheet: &[u8]) -> u64
+    ensures { λ r. ⌜ r ≡ hasCode (hasOf (now (word .entry)) (now (sheet .entry))) ⌝ }
+{
+    let answer = has_supported_analysis(word, sheet);
+    match answer {
+        Has::Refused(refusal) => refusal_code(refusal),
+        Has::TooMany => 7,
+        Has::Given(some) => {
+            if !some {
+                return 0;
+            }
+            15
+        }
+    }
+}
+
+// What writing a text gave, as a number: 16 times its bytes, or 8 for too short a buffer.
+fn written_code(written: Written) -> u64
+    requires { ⌜ FewBytes written ⌝ }
+    ensures { λ r. ⌜ r ≡ writtenCode written ⌝ }
+{
+    match written {
+        Written::Bytes(n) => 16 * (n as u64),
+        Written::TooShort => 8,
+    }
+}
+
+// Writes the list of the word's readings at the front of `out`, as document 01's program prints it, and gives 16 times the number of
+// bytes. Where nothing is written, and `out` is as it was: 8 for too short a buffer, 7 for more than 64 readings, else the refusal, as
+// `refusal_code` gives it. 35,466 bytes are always enough.
+#[no_mangle]
+pub extern "C" fn yunthirel_readings(word: &[u8], sheet: &[u8], out: &mut [u8]) -> u64
+    ensures { λ r. ⌜ (r ≡ readingsCode (saidOf (now (word .entry)) (now (sheet .entry))) (listingText (now (word .entry)) (rowsGiven (now (word .entry)) (now (sheet .entry)))) (now (out .entry)))
+        × (now (out .exit) ≡ readingsLeft (saidOf (now (word .entry)) (now (sheet .entry))) (listingText (now (word .entry)) (rowsGiven (now (word .entry)) (now (sheet .entry)))) (now (out .entry))) ⌝ }
+{
+    let analysis = analyze_affixes(word, sheet);
+    let said = analysis.said;
+    let list = analysis.list;
+    match said {
+        Said::Refused(refusal) => refusal_code(refusal),
+        Said::TooMany => 7,
+        Said::Listed => written_code(write_listing(word, list, out)),
     }
 }
 

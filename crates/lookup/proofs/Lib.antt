@@ -8,3 +8,4 @@ pub mod Settled
 pub mod Begun
 pub mod Parts
 pub mod Promises
+pub mod Readied

@@ -2,3 +2,4 @@ pub mod Starts
 pub mod Search
 pub mod Answers
 pub mod Begins
+pub mod Stored

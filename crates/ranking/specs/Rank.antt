@@ -20,7 +20,10 @@ isLess Greater = false
 abbrev pub larger : ℕ → ℕ → Bool → Bool
 larger a b rest = pick (ltb b a) true (pick (ltb a b) false rest)
 
--- the root of a reading of w
+-- the stem and the root of a reading of w
+abbrev pub stemText : List ℕ → Reading → List ℕ
+stemText w r = part w 0 (r .stem)
+
 abbrev pub rootText : List ℕ → Reading → List ℕ
 rootText w r = part w (r .root) (r .stem)
 

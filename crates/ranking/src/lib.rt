@@ -7,7 +7,7 @@ ghost use Prim.Native.Nat.{_+_, _≤_, _<_};
 ghost use lib.ListN.{length, take, drop};
 ghost use Rattle.ranking.specs.Parts.{part};
 ghost use Rattle.runs.specs.Runs.{cmp};
-ghost use Rattle.ranking.specs.Rank.{isLess, rootText, aheadOf};
+ghost use Rattle.ranking.specs.Rank.{isLess, stemText, rootText, aheadOf};
 ghost use Rattle.ranking.specs.Lists.{listLimit, rowsOf, rows, plus, foundOf};
 ghost use Rattle.ranking.specs.Places.{placeIn, putIn};
 
@@ -70,15 +70,28 @@ fn wide(x: u16) -> usize
     x as usize
 }
 
+// The stem of a reading, as a part of the word; empty where the reading's place does not lie inside the word given.
+pub fn stem_of<'w>(word: &'w [u8], reading: Reading) -> &'w [u8]
+    ensures { λ r. ⌜ now r ≡ stemText (now (word .entry)) reading ⌝ }
+{
+    let to = wide(reading.stem);
+    part_of(word, 0, to)
+}
+
+// The root of a reading, likewise.
+pub fn root_of<'w>(word: &'w [u8], reading: Reading) -> &'w [u8]
+    ensures { λ r. ⌜ now r ≡ rootText (now (word .entry)) reading ⌝ }
+{
+    let from = wide(reading.root);
+    let to = wide(reading.stem);
+    part_of(word, from, to)
+}
+
 // Whether the root of a stands before that of b by its bytes.
 fn root_less(word: &[u8], a: Reading, b: Reading) -> bool
     ensures { λ r. ⌜ r ≡ isLess (cmp (rootText (now (word .entry)) a) (rootText (now (word .entry)) b)) ⌝ }
 {
-    let ar = wide(a.root);
-    let at = wide(a.stem);
-    let br = wide(b.root);
-    let bt = wide(b.stem);
-    let order = compare(part_of(word, ar, at), part_of(word, br, bt));
+    let order = compare(root_of(word, a), root_of(word, b));
     match order {
         Order::Less => true,
         Order::Equal => false,

@@ -1,51 +1,10 @@
 // Replays the oracle's fixed list of acceptance answers (oracle/fixed/acceptance.cases, the file stdin beside src) and writes one
 // line a case, which must be the oracle's (acceptance.answers, the file stdout): 0, a number, or a number and a line's first byte.
+use blocks::case_at;
 use libc::STDIN_FILENO;
 use libc::STDOUT_FILENO;
 use sheet::check::SheetCheck;
 use text::word::WordCheck;
-ghost use mathlib.Core.Path.{_≡_};
-ghost use Prim.Native.Nat.{_≤_, _<_};
-ghost use lib.ListN.{length};
-
-// A number, and the place after the byte that ends it.
-struct Number {
-    value: usize,
-    next: usize,
-}
-
-// The decimal number that begins at `at`; it stops growing past 100,000.
-fn decimal_at(s: &[u8], at: usize) -> Number
-    requires { ⌜ at ≤ length (now s) ⌝ }
-    ensures { λ r. ⌜ (r .value ≤ 2000000) × (at ≤ r .next) × (r .next ≤ length (now (s .entry))) × (at < length (now (s .entry)) → at < r .next) ⌝ }
-{
-    let mut value: usize = 0;
-    let mut i = at;
-    while i < s.len() {
-        let b = s[i];
-        if b < b'0' {
-            return Number { value, next: i + 1 };
-        }
-        if b'9' < b {
-            return Number { value, next: i + 1 };
-        }
-        if 100000 < value {
-            return Number { value, next: i + 1 };
-        }
-        value = value * 10 + digit(b);
-        i += 1;
-    }
-    Number { value, next: i }
-}
-
-fn digit(b: u8) -> usize
-    ensures { λ r. ⌜ r ≤ 255 ⌝ }
-{
-    if b < b'0' {
-        return 0;
-    }
-    (b - b'0') as usize
-}
 
 // Writes a number and where it applies a place.
 fn say(number: u64, at: u64) {
@@ -79,33 +38,15 @@ fn say_both(word: &[u8], sheet: &[u8]) {
     }
 }
 
-// One case: two counts, the word, the sheet, and a byte 0A. The place of the next case; the end where a count is too large.
-fn one(s: &[u8], at: usize) -> usize
-    requires { ⌜ at < length (now s) ⌝ }
-    ensures { λ r. ⌜ (at < r) × (r ≤ length (now (s .entry))) ⌝ }
-{
-    let word = decimal_at(s, at);
-    let sheet = decimal_at(s, word.next);
-    let from = sheet.next;
-    if s.len() - from < word.value {
-        return s.len();
-    }
-    let middle = from + word.value;
-    if s.len() - middle < sheet.value {
-        return s.len();
-    }
-    let end = middle + sheet.value;
-    say_both(&s[from..middle], &s[middle..end]);
-    if end < s.len() {
-        return end + 1;
-    }
-    s.len()
-}
-
 fn replay(s: &[u8]) {
     let mut at = 0;
     while at < s.len() {
-        at = one(s, at);
+        let case = case_at(s, at);
+        let word = case.word;
+        let sheet = case.sheet;
+        let end = case.end;
+        say_both(&s[word..sheet], &s[sheet..end]);
+        at = case.next;
     }
 }
 

@@ -18,8 +18,8 @@ pub enum SheetCheck {
     NotAbove(usize),
 }
 
-// Whether the bytes of s from a to b stand before those from c to d.
-fn rises(s: &[u8], a: usize, b: usize, c: usize, d: usize) -> bool
+// Whether the bytes of s from a to b stand before those from c to d, places inside s.
+pub fn rises(s: &[u8], a: usize, b: usize, c: usize, d: usize) -> bool
     requires { ⌜ (a ≤ b) × (b ≤ length (now s)) × (c ≤ d) × (d ≤ length (now s)) ⌝ }
     ensures { λ r. ⌜ r ≡ isLess (cmp (take (b - a) (drop a (now (s .entry)))) (take (d - c) (drop c (now (s .entry))))) ⌝ }
 {

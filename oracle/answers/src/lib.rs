@@ -32,6 +32,15 @@ pub fn has_progressive(word: &[u8], sheet: &[u8]) -> Vec<u8> {
     text.into_bytes()
 }
 
+/// The source's `has_supported_analysis` alone, or the refusal: 7 where its list has more than 64 readings.
+pub fn has_analysis(word: &[u8], sheet: &[u8]) -> Vec<u8> {
+    let text = match acceptance::check(word, sheet) {
+        Ok((word, forms)) => with_sheet(&forms, || lines::has_analysis(word)),
+        Err(refusal) => lines::refused(refusal),
+    };
+    text.into_bytes()
+}
+
 /// What the program `readings` prints for the bytes of its standard input.
 pub fn readings_program(input: &[u8]) -> Vec<u8> {
     if input.len() > acceptance::SHEET_LIMIT {

@@ -22,6 +22,14 @@ pub fn listing(word: &str) -> String {
     list(&shabda::analyze_affixes(word))
 }
 
+/// The source's `has_supported_analysis`; the count of its list decides between an answer and 7.
+pub fn has_analysis(word: &str) -> String {
+    if let Err(refusal) = check_count(shabda::analyze_affixes(word).len()) {
+        return refused(refusal);
+    }
+    format!("has_analysis {}\n", if shabda::has_supported_analysis(word) { "yes" } else { "no" })
+}
+
 fn list(readings: &[AffixAnalysis]) -> String {
     if let Err(refusal) = check_count(readings.len()) {
         return refused(refusal);

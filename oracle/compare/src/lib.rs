@@ -2,6 +2,7 @@
 
 pub mod options;
 pub mod port;
+pub mod words;
 
 use acceptance::Refusal;
 use blocks::Case;
@@ -35,6 +36,16 @@ pub const QUESTIONS: &[Question] = &[
         name: "has_progressive",
         oracle: |case| text(&answers::has_progressive(&case.word, &case.sheet)).trim_end().to_string(),
         port: |case| has_progressive(port::has_progressive(&case.word, &case.sheet)),
+    },
+    Question {
+        name: "has_analysis",
+        oracle: |case| text(&answers::has_analysis(&case.word, &case.sheet)).trim_end().to_string(),
+        port: |case| has_analysis(port::has_analysis(&case.word, &case.sheet)),
+    },
+    Question {
+        name: "readings",
+        oracle: |case| text(&answers::listing(&case.word, &case.sheet)),
+        port: readings,
     },
     Question {
         name: "origin",
@@ -95,6 +106,47 @@ fn has_progressive(code: u64) -> String {
         15 => "has_progressive yes".to_string(),
         _ => refusal(code),
     }
+}
+
+/// The port's yes, no or 7, written as the oracle does.
+fn has_analysis(code: u64) -> String {
+    match code {
+        0 => "has_analysis no".to_string(),
+        7 => "(refused 7)".to_string(),
+        15 => "has_analysis yes".to_string(),
+        _ => refusal(code),
+    }
+}
+
+/// The bytes that are always enough for a list, and some more.
+const ROOM: usize = 35_466 + 64;
+
+/// The port's list as text, or its refusal. Buffers are checked byte for byte: past the text and after a refusal they hold what
+/// they held before; one that is a byte too short is refused with 8 and left, and one that just fits is filled.
+fn readings(case: &Case) -> String {
+    let fill = |at: usize| (at % 251) as u8 ^ 0xA5;
+    let old: Vec<u8> = (0..ROOM).map(fill).collect();
+    let mut out = old.clone();
+    let code = port::readings(&case.word, &case.sheet, &mut out);
+    if code % 16 != 0 {
+        if out != old {
+            return format!("refused with {code} and wrote");
+        }
+        return if code == 7 { "(refused 7)\n".to_string() } else { refusal(code) + "\n" };
+    }
+    let size = (code / 16) as usize;
+    if size > ROOM || out[size..] != old[size..] {
+        return format!("{size} bytes, and more written");
+    }
+    let mut short = old[..size - 1].to_vec();
+    if port::readings(&case.word, &case.sheet, &mut short) != 8 || short != old[..size - 1] {
+        return format!("not 8, or written, in {} bytes", size - 1);
+    }
+    let mut exact = old[..size].to_vec();
+    if port::readings(&case.word, &case.sheet, &mut exact) != code || exact != out[..size] {
+        return format!("not the same in {size} bytes");
+    }
+    text(&out[..size])
 }
 
 fn text(bytes: &[u8]) -> String {

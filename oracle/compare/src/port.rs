@@ -6,7 +6,7 @@
 
 mod foreign {
     // SAFETY: these are the port's declarations; each reads as many bytes at a pointer
-    // as the length after it says, and writes nothing.
+    // as the length after it says, and writes nothing but what is lent as `*mut`, within its length.
     unsafe extern "C" {
         /// 0 for an accepted word, else 1, 2 or 3.
         pub fn yunthirel_check_word(word: *const u8, len: usize) -> u64;
@@ -17,6 +17,18 @@ mod foreign {
         pub fn yunthirel_progressive(word: *const u8, word_len: usize, sheet: *const u8, sheet_len: usize) -> u64;
         /// The refusal as above; 0 for no supported progressive form, 15 for one.
         pub fn yunthirel_has_progressive(word: *const u8, word_len: usize, sheet: *const u8, sheet_len: usize) -> u64;
+        /// The refusal as above; 0 for a word without readings, 15 for one with some, 7 for more than 64.
+        pub fn yunthirel_has_analysis(word: *const u8, word_len: usize, sheet: *const u8, sheet_len: usize) -> u64;
+        /// 16 times the bytes that the list's text has, written at the front of `out`; 7 for more than 64 readings, 8 for
+        /// too short a buffer, else the refusal as above, and `out` as it was.
+        pub fn yunthirel_readings(
+            word: *const u8,
+            word_len: usize,
+            sheet: *const u8,
+            sheet_len: usize,
+            out: *mut u8,
+            out_len: usize,
+        ) -> u64;
         /// The refusal as above; else 0 in the lowest four bits, then origin (2 bits) and source (2).
         pub fn yunthirel_origin(word: *const u8, word_len: usize, sheet: *const u8, sheet_len: usize) -> u64;
         /// The confidence of the origin; 0.0 for a refusal.
@@ -42,6 +54,25 @@ pub fn progressive(word: &[u8], sheet: &[u8]) -> u64 {
 pub fn has_progressive(word: &[u8], sheet: &[u8]) -> u64 {
     // SAFETY: as above.
     unsafe { foreign::yunthirel_has_progressive(word.as_ptr(), word.len(), sheet.as_ptr(), sheet.len()) }
+}
+
+pub fn has_analysis(word: &[u8], sheet: &[u8]) -> u64 {
+    // SAFETY: as above.
+    unsafe { foreign::yunthirel_has_analysis(word.as_ptr(), word.len(), sheet.as_ptr(), sheet.len()) }
+}
+
+pub fn readings(word: &[u8], sheet: &[u8], out: &mut [u8]) -> u64 {
+    // SAFETY: as above, and the third slice is lent for writing.
+    unsafe {
+        foreign::yunthirel_readings(
+            word.as_ptr(),
+            word.len(),
+            sheet.as_ptr(),
+            sheet.len(),
+            out.as_mut_ptr(),
+            out.len(),
+        )
+    }
 }
 
 pub fn origin(word: &[u8], sheet: &[u8]) -> u64 {

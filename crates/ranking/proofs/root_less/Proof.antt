@@ -4,28 +4,15 @@ use mathlib.Core.Path.{_≡_, sym, ap, _∙_}
 use mathlib.Core.List.{List}
 use Prim.Native.Nat.{ℕ}
 use Rattle.runs.specs.Runs.{cmp}
-use Rattle.ranking.specs.Parts.{part}
 use Rattle.ranking.specs.Rank.{isLess, rootText}
 use Rattle.ranking.proofs.root_less.Statement.{statement}
 use Rattle.ranking.proofs.root_less.Tie as tie
 
-wide-requires : tie.Need-wide-requires
-wide-requires c κs = tt
+root-of-requires : tie.Need-root-of-requires
+root-of-requires c κs = tt
 
-wide-requires-2 : tie.Need-wide-requires-2
-wide-requires-2 c κs = tt
-
-wide-requires-3 : tie.Need-wide-requires-3
-wide-requires-3 c κs = tt
-
-wide-requires-4 : tie.Need-wide-requires-4
-wide-requires-4 c κs = tt
-
-part-of-requires : tie.Need-part-of-requires
-part-of-requires c κs = tt
-
-part-of-requires-2 : tie.Need-part-of-requires-2
-part-of-requires-2 c κs = tt
+root-of-requires-2 : tie.Need-root-of-requires-2
+root-of-requires-2 c κs = tt
 
 compare-requires : tie.Need-compare-requires
 compare-requires c κs = tt
@@ -40,13 +27,11 @@ enum-told-3 : tie.Need-enum-told-3
 enum-told-3 c = search needs
 
 -- the two parts compared are the roots
-compared : (c : tie.After-compare) → let a = c .before .before .before .before .before .before .before .before .args in
+compared : (c : tie.After-compare) → let a = c .before .before .before .before .args in
     c .compare .result ≡ cmp (rootText (a .word .now) (a .a)) (rootText (a .word .now) (a .b))
 compared c =
     let p = c .before .before in
-    let q = p .before in
-    let a = q .before .before .before .before .before .args in
-    c .compare .ensures ∙ cc (p .part-of .ensures, c .before .part-of2 .ensures, q .wide4 .ensures, q .before .wide3 .ensures, q .before .before .wide2 .ensures, q .before .before .before .wide .ensures)
+    c .compare .ensures ∙ cc (p .root-of .ensures, c .before .root-of2 .ensures)
 
 returns : tie.Need-returns
 returns c = ap isLess (sym (c .enum-told .given .1) ∙ compared (c .before .before))
@@ -59,6 +44,4 @@ returns-3 c = ap isLess (sym (c .enum-told3 .given .1) ∙ compared (c .before .
 
 pub root-less-spec : {M : Type 1} → statement M
 root-less-spec =
-    tie.close
-    (tie.spec wide-requires wide-requires-2 wide-requires-3 wide-requires-4 part-of-requires part-of-requires-2 compare-requires enum-told enum-told-2 enum-told-3
-    returns returns-2 returns-3)
+    tie.close (tie.spec root-of-requires root-of-requires-2 compare-requires enum-told enum-told-2 enum-told-3 returns returns-2 returns-3)

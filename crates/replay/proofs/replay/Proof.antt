@@ -15,8 +15,29 @@ abbrev μ-loop : tie.MeasureT-loop
 loop-holds : tie.Need-loop-holds Inv-loop μ-loop
 loop-holds c = search needs
 
-one-requires : tie.Need-one-requires Inv-loop μ-loop
-one-requires c κs = search needs
+case-at-requires : tie.Need-case-at-requires Inv-loop μ-loop
+case-at-requires c κs = search needs
+
+sub-say-both : tie.Need-sub-say-both Inv-loop μ-loop
+sub-say-both c = search needs
+
+part-say-both-start : tie.Need-part-say-both-start Inv-loop μ-loop
+part-say-both-start c = search needs
+
+part-say-both-end : tie.Need-part-say-both-end Inv-loop μ-loop
+part-say-both-end c = search needs
+
+sub-say-both-2 : tie.Need-sub-say-both-2 Inv-loop μ-loop
+sub-say-both-2 c = search needs
+
+part-say-both-start-2 : tie.Need-part-say-both-start-2 Inv-loop μ-loop
+part-say-both-start-2 c = search needs
+
+part-say-both-end-2 : tie.Need-part-say-both-end-2 Inv-loop μ-loop
+part-say-both-end-2 c = search needs
+
+say-both-requires : tie.Need-say-both-requires Inv-loop μ-loop
+say-both-requires c κs = search needs
 
 loop-less : tie.Need-loop-less Inv-loop μ-loop
 loop-less c = search needs
@@ -29,4 +50,19 @@ returns c = search needs
 
 pub replay-spec : {M : Type 1} → statement M
 replay-spec =
-    tie.close (tie.spec Inv-loop μ-loop loop-holds one-requires loop-less loop-again returns)
+    tie.close
+    (tie.spec
+    Inv-loop
+    μ-loop
+    loop-holds
+    case-at-requires
+    sub-say-both
+    part-say-both-start
+    part-say-both-end
+    sub-say-both-2
+    part-say-both-start-2
+    part-say-both-end-2
+    say-both-requires
+    loop-less
+    loop-again
+    returns)

@@ -5,6 +5,7 @@
 //!
 //! Rounds of the two are interleaved; of 15 rounds each, the quickest counts.
 
+use compare::words::{LEXICON, WORDS};
 use std::collections::BTreeSet;
 use std::hint::black_box;
 use std::time::{Duration, Instant};
@@ -17,6 +18,127 @@ const WORD: &str = "नपकिरहेको";
 fn main() {
     checks();
     answers();
+    readings();
+}
+
+/// The core call beside the Rust's: the same words and sheets, the check of the sheet counted apart.
+fn readings() {
+    println!("{:>24} {:>12} {:>12} {:>10} {:>10}", "readings", "Rust, us", "port, us", "Rust/port", "all/check");
+    let own = |word: &str| own_sheet(word);
+    let full = full_lexicon();
+    let words: Vec<&str> = WORDS.to_vec();
+    row("own sheets", &words, own);
+    row("a full sheet", &words, |_| full.clone());
+    for word in ["अपरिचितहरूलाई", "निःनिःघरकोकोकोको", "निःनिःघरहरूकोमालेक्यारे"] {
+        row(word, &[word], own_runs);
+        row("  on a full sheet", &[word], |word| filled(&own_runs(word)));
+    }
+}
+
+/// One row: the Rust's time for a word, the port's without the check of the sheet, their ratio, and all of the port's time against
+/// the check alone.
+fn row(name: &str, words: &[&str], sheet_of: impl Fn(&str) -> Vec<u8>) {
+    let (mut rust, mut port, mut check, mut stored) = (0.0, 0.0, 0.0, 0.0);
+    for word in words {
+        let sheet = sheet_of(word);
+        let (_, forms) = acceptance::check(word.as_bytes(), &sheet).unwrap_or_else(|refusal| panic!("{word}: {refusal}"));
+        // The list itself is compared by `compare`; here only that both find something or nothing.
+        let some = answers::with_sheet(&forms, || shabda::has_supported_analysis(word));
+        let code = compare::port::has_analysis(word.as_bytes(), &sheet);
+        assert!(code == 7 || (code == 15) == some, "{word}: the port says {code}");
+        let turns = 20;
+        let mut best = [Duration::MAX; 4];
+        for _ in 0..ROUNDS {
+            best[0] = best[0].min(answers::with_sheet(&forms, || {
+                time(turns, || {
+                    black_box(shabda::analyze_affixes(black_box(word)));
+                })
+            }));
+            best[1] = best[1].min(time(turns, || {
+                black_box(compare::port::has_analysis(black_box(word.as_bytes()), black_box(&sheet)));
+            }));
+            best[2] = best[2].min(time(turns, || {
+                black_box(compare::port::check_sheet(black_box(&sheet)));
+            }));
+            best[3] = best[3].min(time(turns, || {
+                black_box(compare::port::progressive(black_box("क".as_bytes()), black_box(&sheet)));
+            }));
+        }
+        let micros = |time: Duration| time.as_secs_f64() * 1e6 / turns as f64;
+        rust += micros(best[0]);
+        port += micros(best[1]);
+        check += micros(best[2]);
+        stored += micros(best[3]);
+    }
+    let count = words.len() as f64;
+    let rest = port - check;
+    println!(
+        "{name:>24} {:12.2} {:12.2} {:10.1} {:10.2} {:10.2} {:10.1}",
+        rust / count,
+        rest / count,
+        rust / rest,
+        port / check,
+        stored / check,
+        rust / (port - stored)
+    );
+}
+
+/// The lines of the lexicon that answer the word's own questions.
+fn own_sheet(word: &str) -> Vec<u8> {
+    let texts: Vec<&str> = shabda_texts();
+    let asked = |name: &str| {
+        word.contains(name) || texts.iter().any(|text| name.strip_suffix(text).is_some_and(|run| word.contains(run) && !run.is_empty()))
+    };
+    sheet_of(LEXICON.iter().filter(|(name, _)| asked(name)).map(|&(name, letters)| (name.to_string(), letters.to_string())))
+}
+
+/// Every run of the word's characters, known by w.
+fn own_runs(word: &str) -> Vec<u8> {
+    let starts: Vec<usize> = word.char_indices().map(|(at, _)| at).chain([word.len()]).collect();
+    let mut names = BTreeSet::new();
+    for (i, &from) in starts.iter().enumerate() {
+        for &to in &starts[i + 1..] {
+            names.insert(word[from..to].to_string());
+        }
+    }
+    sheet_of(names.into_iter().map(|name| (name, "w".to_string())))
+}
+
+fn full_lexicon() -> Vec<u8> {
+    filled(&sheet_of(LEXICON.iter().map(|&(name, letters)| (name.to_string(), letters.to_string()))))
+}
+
+/// The sheet with lines of other names, as full as whole lines allow.
+fn filled(sheet: &[u8]) -> Vec<u8> {
+    let mut lines: BTreeSet<String> = std::str::from_utf8(sheet).expect("a sheet is UTF-8").lines().map(|line| format!("{line}\n")).collect();
+    let mut size = sheet.len();
+    for line in std::str::from_utf8(&full_sheet(acceptance::SHEET_LIMIT)).expect("UTF-8").lines() {
+        let head = &line[..line.rfind(' ').expect("a form") + 1];
+        let line = format!("{line}\n");
+        if size + line.len() > acceptance::SHEET_LIMIT {
+            continue;
+        }
+        if lines.range(head.to_string()..).next().is_some_and(|next| next.starts_with(head)) {
+            continue;
+        }
+        size += line.len();
+        lines.insert(line);
+    }
+    lines.into_iter().collect::<String>().into_bytes()
+}
+
+fn sheet_of(names: impl Iterator<Item = (String, String)>) -> Vec<u8> {
+    let lines: BTreeSet<String> = names.map(|(name, letters)| format!("(w {name} ({letters}))\n")).collect();
+    lines.into_iter().collect::<String>().into_bytes()
+}
+
+/// The texts that are appended in a word's own questions.
+fn shabda_texts() -> Vec<&'static str> {
+    let mut texts = vec!["नु", "्नु", "उनु"];
+    texts.extend(shabda::tables::CASE_MARKERS);
+    texts.extend(shabda::tables::PLURAL_MARKERS);
+    texts.extend(shabda::tables::PARTICLES);
+    texts
 }
 
 fn answers() {

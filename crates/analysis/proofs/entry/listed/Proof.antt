@@ -5,7 +5,7 @@ use Rattle.analysis.proofs.entry.listed.Statement.{statement}
 use Rattle.analysis.proofs.entry.listed.Tie as tie
 
 collect-requires : tie.Need-collect-requires
-collect-requires c κs = c .before .before .pre
+collect-requires c κs = c .before .before .before .pre
 
 refused-requires : tie.Need-refused-requires
 refused-requires c κs = tt

@@ -1,0 +1,133 @@
+-- How long a text can be: of a word of at most 192 bytes, a row has at most 554 bytes and a list of 64 rows at most 35,466. Assumes
+-- nothing.
+use Prim.Native.Nat.{ℕ, zero, suc, _+_, _-_, _*_, _/_, _%_, _≤_, _<_, min}
+use native.Mathlib.Omega.{arith}
+use native.Mathlib.Nat.{suc-mul}
+use mathlib.Core.Path.{_≡_, refl, sym, ap, _∙_}
+use mathlib.Core.Bool.{Bool, true, false, _&&_}
+use mathlib.Core.List.{List, [], _∷_, _++_, map}
+use lib.ListN.{length, take, drop, getD, length-append, length-take, length-drop, length-map, List·getD-eq-default}
+use lib.Dec.{ltb, leb}
+use borrow.Author.Tests.{ltb-true, ltb-false, leb-true}
+use Rattle.runs.specs.Runs.{pick}
+use Rattle.tables.specs.Rows.{prefixLabels, pluralMarkers, caseMarkers, particles}
+use Rattle.tables.specs.Tables.{affixes}
+use Rattle.tables.proofs.Tested.{every, at}
+use Rattle.ranking.specs.Parts.{part}
+use Rattle.ranking.specs.declared.AffixKind.{AffixKind}
+use Rattle.ranking.specs.declared.AffixKind.the-variants.{Particle, CaseMarker, PluralMarker, Postposition, ComparisonMarker}
+use Rattle.ranking.specs.declared.Segment.{Segment}
+use Rattle.ranking.specs.declared.Reading.{Reading}
+use Rattle.listing.specs.Decimal.{digit, decimal}
+use Rattle.listing.specs.Texts.{gap, partedFrom, kindText, segmentText, labelText, prefixTexts, segmentTexts, rowText, rowTexts, listingText, refusedText, rowRoom, listingRoom}
+use Rattle.listing.proofs.Digits.{one-digit, more-digits}
+
+-- a row of a table none of whose rows is longer than m, and what stands for one that is not there
+row-size : (rows : List (List ℕ)) (m : ℕ) → every (λ _ r. leb (length r) m) 0 rows ≡ true → (k : ℕ) → length (getD rows k []) ≤ m
+row-size rows m t k = by (ltb k (length rows)) refl
+  where
+    by : (b : Bool) → ltb k (length rows) ≡ b → length (getD rows k []) ≤ m
+    by true e = leb-true _ _ (at (λ _ r. leb (length r) m) rows t k [] (ltb-true _ _ e))
+    by false e = let z = ap length (List·getD-eq-default rows [] (ltb-false _ _ e)) in omega arith
+
+label-size : (k : ℕ) → length (labelText k) ≤ 15
+unfolding prefixLabels
+label-size k = row-size prefixLabels 15 refl k
+
+affix-size : (k : ℕ) → length (getD affixes k []) ≤ 18
+unfolding affixes pluralMarkers caseMarkers particles
+affix-size k = row-size affixes 18 refl k
+
+kind-size : (k : AffixKind) → length (kindText k) ≤ 8
+kind-size Particle = omega arith
+kind-size CaseMarker = omega arith
+kind-size PluralMarker = omega arith
+kind-size Postposition = omega arith
+kind-size ComparisonMarker = omega arith
+
+segment-size : (s : Segment) → length (segmentText s) ≤ 29
+unfolding segmentText
+segment-size s =
+    let a = affix-size (s .label) in
+    let k = kind-size (s .kind) in
+    simp length-append (omega arith)
+
+gap-size : (i : ℕ) → length (gap i) ≤ 1
+gap-size zero = omega arith
+gap-size (suc i) = omega arith
+
+parted-size : {A : Type 0} (f : A → List ℕ) (m : ℕ) → ((x : A) → length (f x) ≤ m) → (i : ℕ) (xs : List A)
+    → length (partedFrom i (map f xs)) ≤ length xs * (m + 1)
+parted-size f m h i [] = omega arith
+parted-size f m h i (x ∷ xs) =
+    let g = gap-size i in
+    let t = h x in
+    let r = parted-size f m h (suc i) xs in
+    let z = suc-mul (length xs) (m + 1) in
+    simp length-append (omega arith)
+
+part-size : (w : List ℕ) (from to : ℕ) → length (part w from to) ≤ length w
+unfolding part
+part-size w from to = by (leb from to && leb to (length w))
+  where
+    by : (b : Bool) → length (pick b (take (to - from) (drop from w)) []) ≤ length w
+    by true = simp (length-take, length-drop) (omega arith)
+    by false = omega arith
+
+-- a number below ten times b has at most one digit more than those below b
+more-size : (j b : ℕ) → ((n : ℕ) → n < b → length (decimal n) ≤ suc j) → (n : ℕ) → n < 10 * b → length (decimal n) ≤ suc (suc j)
+more-size j b h n l = by (ltb n 10) refl
+  where
+    by : (t : Bool) → ltb n 10 ≡ t → length (decimal n) ≤ suc (suc j)
+    by true e = let z = ap length (one-digit n (ltb-true _ _ e)) in omega arith
+    by false e =
+        let z = ap length (more-digits n (ltb-false _ _ e)) ∙ length-append (decimal (n / 10)) (digit (n % 10) ∷ []) in
+        let r = h (n / 10) (omega arith) in
+        omega arith
+
+pub digit-size : (n : ℕ) → n < 10 → length (decimal n) ≤ 1
+digit-size n h = let z = ap length (one-digit n h) in omega arith
+
+pub count-size : (n : ℕ) → n < 100 → length (decimal n) ≤ 2
+count-size n h = more-size 0 10 digit-size n (omega arith)
+
+pub number-size : (n : ℕ) → n < 100000 → length (decimal n) ≤ 5
+number-size n h =
+    more-size 3 10000 (λ n h. more-size 2 1000 (λ n h. more-size 1 100 count-size n (omega arith)) n (omega arith)) n (omega arith)
+
+pub reading-size : (w : List ℕ) (r : Reading) → length w ≤ 192 → length (r .prefixes) ≡ 2 → length (r .segments) ≡ 4 → r .score < 65536
+    → length (rowText w r) ≤ 554
+unfolding rowText
+reading-size w r h p s c =
+    let a = part-size w 0 (r .stem) in
+    let b = part-size w (r .root) (r .stem) in
+    let t = length-take (r .«prefix_count») (r .prefixes) in
+    let u = length-take (r .«suffix_count») (r .segments) in
+    let d = parted-size labelText 15 label-size 0 (take (r .«prefix_count») (r .prefixes)) in
+    let e = parted-size segmentText 29 segment-size 0 (take (r .«suffix_count») (r .segments)) in
+    let n = number-size (r .score) (omega arith) in
+    simp length-append (omega arith)
+
+-- the rows from the i-th on, where those before it have at most 554 bytes each
+module _ (w : List ℕ) (i whole : ℕ) (rs : List Reading) (so-far : whole ≤ i * rowRoom + length (rowTexts w rs)) where
+  pub rows-turn : (r : Reading) (rest : List Reading) → rs ≡ r ∷ rest → length (rowText w r) ≤ rowRoom → whole ≤ (i + 1) * rowRoom + length (rowTexts w rest)
+  rows-turn r rest e h = let z = ap (λ (l : List Reading). length (rowTexts w l)) e ∙ length-append (rowText w r) (rowTexts w rest) in omega arith
+
+  pub rows-end : (n : ℕ) → i ≤ n → rs ≡ [] → whole ≤ n * rowRoom
+  rows-end n h e = let z = ap (λ (l : List Reading). length (rowTexts w l)) e in omega arith
+
+pub listing-size : (w : List ℕ) (rs : List Reading) (n : ℕ) → n ≤ 64 → n ≡ length rs → length (rowTexts w rs) ≤ n * rowRoom → length (listingText w rs) ≤ listingRoom
+unfolding listingText
+listing-size w rs n h e r = let d = count-size (length rs) (omega arith) in simp length-append (omega arith)
+
+-- a refusal's line
+pub number-line-size : (n : ℕ) → n < 10 → length (refusedText (n ∷ [])) ≤ listingRoom
+unfolding refusedText
+number-line-size n h = let d = digit-size n h in simp length-append (omega arith)
+
+pub place-line-size : (n start : ℕ) → n < 10 → start < 65536 → length (refusedText (n ∷ start ∷ [])) ≤ listingRoom
+unfolding refusedText
+place-line-size n start h l =
+    let d = digit-size n h in
+    let e = number-size start (omega arith) in
+    simp length-append (omega arith)

@@ -1,0 +1,5 @@
+pub mod Decimal
+pub mod Placed
+pub mod Texts
+pub mod Labels
+pub mod Printed

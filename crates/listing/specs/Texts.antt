@@ -1,0 +1,102 @@
+-- The text of a list of readings and of a refusal (document 01, "Readings worked by hand"). Assumes nothing.
+use Prim.Native.Nat.{ℕ, zero, suc}
+use mathlib.Core.List.{List, [], _∷_, _++_, map}
+use lib.ListN.{length, take, getD}
+use Rattle.tables.specs.Rows.{prefixLabels}
+use Rattle.tables.specs.Tables.{affixes}
+use Rattle.ranking.specs.Parts.{part}
+use Rattle.ranking.specs.Rank.{rootText}
+use Rattle.ranking.specs.declared.AffixKind.{AffixKind}
+use Rattle.ranking.specs.declared.AffixKind.the-variants.{Particle, CaseMarker, PluralMarker, Postposition, ComparisonMarker}
+use Rattle.ranking.specs.declared.Segment.{Segment}
+use Rattle.ranking.specs.declared.Reading.{Reading}
+use Rattle.listing.specs.Decimal.{decimal}
+use Rattle.listing.specs.declared.Refused.{Refused}
+use Rattle.listing.specs.declared.Refused.the-variants.{Number, Line}
+
+-- a space before every text but the first
+abbrev pub gap : ℕ → List ℕ
+gap zero = []
+gap (suc i) = 0x20 ∷ []
+
+abbrev pub partedFrom : ℕ → List (List ℕ) → List ℕ
+partedFrom i [] = []
+partedFrom i (t ∷ ts) = gap i ++ (t ++ partedFrom (suc i) ts)
+
+-- texts parted by one space
+abbrev pub parted : List (List ℕ) → List ℕ
+parted ts = partedFrom 0 ts
+
+-- the name of a kind
+abbrev pub kindText : AffixKind → List ℕ
+kindText Particle = 0x70 ∷ 0x61 ∷ 0x72 ∷ 0x74 ∷ 0x69 ∷ 0x63 ∷ 0x6C ∷ 0x65 ∷ []  -- particle
+kindText CaseMarker = 0x63 ∷ 0x61 ∷ 0x73 ∷ 0x65 ∷ []  -- case
+kindText PluralMarker = 0x70 ∷ 0x6C ∷ 0x75 ∷ 0x72 ∷ 0x61 ∷ 0x6C ∷ []  -- plural
+kindText Postposition = 0x70 ∷ 0x6F ∷ 0x73 ∷ 0x74 ∷ []  -- post
+kindText ComparisonMarker = 0x63 ∷ 0x6F ∷ 0x6D ∷ 0x70 ∷ []  -- comp
+
+-- (LABEL KIND)
+unfoldable pub segmentText : Segment → List ℕ
+segmentText s =
+    (0x28 ∷ [])  -- (
+    ++ (getD affixes (s .label) []
+    ++ ((0x20 ∷ [])
+    ++ (kindText (s .kind)
+    ++ (0x29 ∷ []))))  -- )
+
+-- the label of a row of PREFIX_FORMS
+abbrev pub labelText : ℕ → List ℕ
+labelText k = getD prefixLabels k []
+
+-- a reading's prefix labels, outermost first, and its segments, nearest the stem first
+abbrev pub prefixTexts : Reading → List (List ℕ)
+prefixTexts r = map labelText (take (r .«prefix_count») (r .prefixes))
+
+abbrev pub segmentTexts : Reading → List (List ℕ)
+segmentTexts r = map segmentText (take (r .«suffix_count») (r .segments))
+
+-- (r STEM ROOT (LABELS) (SEGMENTS) SCORE) and 0A, for a reading of the word w
+unfoldable pub rowText : List ℕ → Reading → List ℕ
+rowText w r =
+    (0x28 ∷ 0x72 ∷ 0x20 ∷ [])  -- (r
+    ++ (part w 0 (r .stem)
+    ++ ((0x20 ∷ [])
+    ++ (rootText w r
+    ++ ((0x20 ∷ 0x28 ∷ [])  -- (
+    ++ (parted (prefixTexts r)
+    ++ ((0x29 ∷ 0x20 ∷ 0x28 ∷ [])  -- ) (
+    ++ (parted (segmentTexts r)
+    ++ ((0x29 ∷ 0x20 ∷ [])  -- )
+    ++ (decimal (r .score)
+    ++ (0x29 ∷ 0x0A ∷ []))))))))))  -- ) and 0A
+
+abbrev pub rowTexts : List ℕ → List Reading → List ℕ
+rowTexts w [] = []
+rowTexts w (r ∷ rs) = rowText w r ++ rowTexts w rs
+
+-- (list N) and 0A, then the rows
+unfoldable pub listingText : List ℕ → List Reading → List ℕ
+listingText w rs =
+    (0x28 ∷ 0x6C ∷ 0x69 ∷ 0x73 ∷ 0x74 ∷ 0x20 ∷ [])  -- (list
+    ++ (decimal (length rs)
+    ++ ((0x29 ∷ 0x0A ∷ [])  -- ) and 0A
+    ++ rowTexts w rs))
+
+-- the numbers that a refusal prints
+abbrev pub refusedNumbers : Refused → List ℕ
+refusedNumbers (Number n) = n ∷ []
+refusedNumbers (Line n start) = n ∷ start ∷ []
+
+-- (refused N) or (refused N START), and 0A
+unfoldable pub refusedText : List ℕ → List ℕ
+refusedText numbers =
+    (0x28 ∷ 0x72 ∷ 0x65 ∷ 0x66 ∷ 0x75 ∷ 0x73 ∷ 0x65 ∷ 0x64 ∷ 0x20 ∷ [])  -- (refused
+    ++ (parted (map decimal numbers)
+    ++ (0x29 ∷ 0x0A ∷ []))  -- ) and 0A
+
+-- how long a row and a list can be, of a word that is not too long
+abbrev pub rowRoom : ℕ
+rowRoom = 554
+
+abbrev pub listingRoom : ℕ
+listingRoom = 35466

@@ -1,0 +1,134 @@
+// The check of a word and a sheet for all that is asked of them: the sheet is read once, and the first byte of each line is stored on
+// the way.
+ghost use mathlib.Core.Path.{_≡_};
+ghost use Prim.Native.Nat.{_≤_};
+ghost use lib.ListN.{length};
+ghost use Rattle.lookup.specs.Starts.{lineLimit};
+ghost use Rattle.lookup.specs.Stored.{Stored, SheetReady, Prepared};
+use crate::starts::Start;
+use sheet::check::SheetCheck;
+use sheet::check::rises;
+use sheet::inputs::Inputs;
+use sheet::inputs::Refusal;
+use sheet::line::Cursor;
+use sheet::line::Line;
+use text::word::WordCheck;
+use text::word::check_word;
+
+// What is said of a sheet, and of how many lines the first byte is stored.
+pub struct Checked {
+    pub said: SheetCheck,
+    pub lines: usize,
+}
+
+// What is said of a word and a sheet together, and of how many lines the first byte is stored.
+pub struct Ready {
+    pub inputs: Inputs,
+    pub lines: usize,
+}
+
+// The check of a sheet, as `sheet::check::check_sheet` makes it. The first bytes of an accepted sheet's lines are stored at the front
+// of `out`, which has room for 6,553. Free: what is stored of a refused sheet.
+pub fn check_lines(s: &[u8], out: &mut [Start]) -> Checked
+    requires { ⌜ lineLimit ≤ length (now out) ⌝ }
+    ensures { λ r. ⌜ Stored (now (s .entry)) (now (out .entry)) (now (out .exit)) r ⌝ }
+{
+    if 65536 < s.len() {
+        return Checked {
+            said: SheetCheck::TooLong,
+            lines: 0,
+        };
+    }
+    let mut n: usize = 0;
+    let mut cursor = Cursor { at: 0 };
+    let mut from = 0;
+    let mut end = 0;
+    loop {
+        let at = cursor.at;
+        let line = cursor.step(s);
+        match line {
+            Line::End => {
+                return Checked {
+                    said: SheetCheck::Accepted,
+                    lines: n,
+                };
+            }
+            Line::NoForm => {
+                return Checked {
+                    said: SheetCheck::NoForm(at),
+                    lines: n,
+                };
+            }
+            Line::Form {
+                name_end,
+                value_end: _,
+                next,
+            } => {
+                let first = at + 1;
+                if !rises(s, from, end, first, name_end) {
+                    return Checked {
+                        said: SheetCheck::NotAbove(at),
+                        lines: n,
+                    };
+                }
+                out[n] = at as Start;
+                n += 1;
+                from = first;
+                end = name_end;
+                cursor = next;
+            }
+        }
+    }
+}
+
+// What is said of a sheet with a word that is accepted.
+fn sheet_ready(sheet: &[u8], out: &mut [Start]) -> Ready
+    requires { ⌜ lineLimit ≤ length (now out) ⌝ }
+    ensures { λ r. ⌜ SheetReady (now (sheet .entry)) (now (out .entry)) (now (out .exit)) r ⌝ }
+{
+    let checked = check_lines(sheet, out);
+    let lines = checked.lines;
+    let said = checked.said;
+    match said {
+        SheetCheck::Accepted => Ready {
+            inputs: Inputs::Accepted,
+            lines,
+        },
+        SheetCheck::TooLong => Ready {
+            inputs: Inputs::Refused(Refusal::SheetTooLong),
+            lines,
+        },
+        SheetCheck::NoForm(at) => Ready {
+            inputs: Inputs::Refused(Refusal::SheetNoForm(at)),
+            lines,
+        },
+        SheetCheck::NotAbove(at) => Ready {
+            inputs: Inputs::Refused(Refusal::SheetNotAbove(at)),
+            lines,
+        },
+    }
+}
+
+// Whether word and sheet are accepted, as `sheet::inputs::check_inputs` says it. The first bytes of an accepted sheet's lines are
+// stored at the front of `out`, which has room for 6,553. Free: what is stored where word or sheet is refused.
+pub fn prepare(word: &[u8], sheet: &[u8], out: &mut [Start]) -> Ready
+    requires { ⌜ lineLimit ≤ length (now out) ⌝ }
+    ensures { λ r. ⌜ Prepared (now (word .entry)) (now (sheet .entry)) (now (out .entry)) (now (out .exit)) r ⌝ }
+{
+    let said = check_word(word);
+    match said {
+        WordCheck::TooLong => Ready {
+            inputs: Inputs::Refused(Refusal::WordTooLong),
+            lines: 0,
+        },
+        WordCheck::NotUtf8 => Ready {
+            inputs: Inputs::Refused(Refusal::WordNotUtf8),
+            lines: 0,
+        },
+        WordCheck::Forbidden => Ready {
+            inputs: Inputs::Refused(Refusal::WordForbidden),
+            lines: 0,
+        },
+        WordCheck::Accepted => sheet_ready(sheet, out),
+    }
+}
