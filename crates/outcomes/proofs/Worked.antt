@@ -24,7 +24,11 @@ use Rattle.ranking.specs.Lists.{ranked, plus, plusAll}
 use Rattle.paths.specs.Support.{knownWith, isSupported, scoreOf}
 use Rattle.paths.specs.Walk.{rootWalk, overForms, secondWalk, stemWalk, rowsWalk, pieceWalk}
 use Rattle.analysis.specs.Answers.{saidOf, rowsGiven}
-use Rattle.outcomes.specs.Words.{ghar, gharle, le, nihshulk, shulk, nir, nis, amanav, manav, a, asaphal, saphal, khairaheko, nakhairaheko, khai, nakhai, khanu, rahanu, gariraheko, gari, garnu, garanu}
+use Rattle.bytes.specs.Bytes.{indexAfter, indexOf}
+use Rattle.listing.specs.Decimal.{digitsIn, decimal}
+use Rattle.listing.specs.Texts.{segmentText, rowText, listingText}
+use Rattle.listing.specs.Printed.{readingsText, printed}
+use Rattle.outcomes.specs.Words.{ghar, gharle, le, nihshulk, shulk, nir, nis, amanav, manav, a, asaphal, saphal, khairaheko, nakhairaheko, khai, nakhai, khanu, rahanu, gariraheko, gari, garnu, garanu, listing}
 use Rattle.outcomes.specs.Outcomes.{Outcome, outcomeOf}
 use Rattle.outcomes.specs.Cases.{Case, cases}
 
@@ -34,5 +38,6 @@ unfolding within utf8Char opened after run isUtf8 opens chars forbidden nameRun 
     placeOf sheds isLong plain shared leastAfter leaves prefixRemainder regular lemmaOf isShaped progressiveOf answerOf part aheadOf ranked plus
     plusAll knownWith isSupported scoreOf rootWalk overForms secondWalk stemWalk rowsWalk pieceWalk saidOf rowsGiven
     ghar gharle le nihshulk shulk nir nis amanav manav a asaphal saphal khairaheko nakhairaheko khai nakhai khanu rahanu gariraheko gari garnu garanu
+    listing indexAfter indexOf printed readingsText listingText rowText segmentText decimal digitsIn
     cases
 worked = refl

@@ -5,8 +5,8 @@ use mathlib.Core.Bool.{true, false}
 use mathlib.Core.List.{List, [], _∷_, _++_}
 use Rattle.sheet.specs.Forms.{written}
 use Rattle.ranking.specs.declared.AffixKind.the-variants.{CaseMarker}
-use Rattle.outcomes.specs.Words.{ghar, gharle, le, nihshulk, shulk, nir, nis, amanav, manav, a, asaphal, saphal, khairaheko, nakhairaheko, khai, nakhai, khanu, rahanu, gariraheko, gari, garnu, garanu}
-use Rattle.outcomes.specs.Outcomes.{Question, readings, progressive, Suffix, Row, Outcome, list, form, noForm}
+use Rattle.outcomes.specs.Words.{ghar, gharle, le, nihshulk, shulk, nir, nis, amanav, manav, a, asaphal, saphal, khairaheko, nakhairaheko, khai, nakhai, khanu, rahanu, gariraheko, gari, garnu, garanu, listing}
+use Rattle.outcomes.specs.Outcomes.{Question, prints, readings, progressive, Suffix, Row, Outcome, text, list, form, noForm}
 
 -- a line of a sheet, with its 0A
 abbrev pub lineOf : ℕ → List ℕ → List ℕ → List ℕ
@@ -45,6 +45,7 @@ case q o = record { asked = q; outcome = o }
 
 unfoldable pub cases : List Case
 cases =
+    case (prints (gharle ++ 0x0A ∷ both ghar)) (text listing) ∷
     case (readings gharle (both ghar)) (list (row ghar ghar [] (caseLe ∷ []) 279 ∷ [])) ∷
     case (readings gharle (both ghar ++ word gharle)) (list (row ghar ghar [] (caseLe ∷ []) 339 ∷ row gharle gharle [] [] 104 ∷ [])) ∷
     case (readings nihshulk (head shulk)) (list (row nihshulk shulk (nir ∷ []) [] 188 ∷ row nihshulk shulk (nis ∷ []) [] 188 ∷ [])) ∷

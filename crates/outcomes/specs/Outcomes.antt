@@ -18,9 +18,11 @@ use Rattle.progressive.specs.Answers.{answerOf, answerNumbers, lemmaPart}
 use Rattle.analysis.specs.declared.entry.Said.{Said}
 use Rattle.analysis.specs.declared.entry.Said.the-variants.{Listed, Refused, TooMany}
 use Rattle.analysis.specs.Answers.{saidOf, rowsGiven, saidNumbers}
+use Rattle.listing.specs.Printed.{printed}
 
--- what is asked of a word and a sheet: its readings, or its progressive form
+-- what is asked: what the program prints for an input; of a word and a sheet, its readings, or its progressive form
 pub data Question : Type 0 where
+  prints : List ℕ → Question
   readings : List ℕ → List ℕ → Question
   progressive : List ℕ → List ℕ → Question
 
@@ -37,9 +39,10 @@ pub record Row : Type 0 where
   pub suffixes : List Suffix
   pub score : ℕ
 
--- an outcome: the rows of the list; a progressive form, by its main form, whether it is negative, and its lemma; no progressive
+-- an outcome: the text printed; the rows of the list; a progressive form, by its main form, whether it is negative, and its lemma; no progressive
 -- form; or a refusal by its numbers
 pub data Outcome : Type 0 where
+  text : List ℕ → Outcome
   list : List Row → Outcome
   form : List ℕ → Bool → List ℕ → Outcome
   noForm : Outcome
@@ -74,5 +77,6 @@ formOf w s (answers.Given p) = pick (p .found) (form (part w 0 (p .«main_end»)
 
 -- the outcome of a question
 abbrev pub outcomeOf : Question → Outcome
+outcomeOf (prints input) = text (printed input)
 outcomeOf (readings w s) = listOf w (saidOf w s) (rowsGiven w s)
 outcomeOf (progressive w s) = formOf w s (answerOf w s)
