@@ -1,3 +1,4 @@
 pub mod Taken
 pub mod Stages
 pub mod Leading
+pub mod Short

@@ -13,6 +13,7 @@ ghost use Rattle.tables.specs.Tables.{Laid};
 ghost use Rattle.decomposition.specs.Strips.{leastRoot};
 ghost use Rattle.decomposition.specs.Parts.{decomposedOf, morphemeOf};
 
+pub mod entries;
 pub mod fronts;
 pub mod suffixes;
 
