@@ -1,0 +1,4 @@
+pub mod Labels
+pub mod Alternatives
+pub mod Kept
+pub mod Offered
