@@ -18,7 +18,7 @@ use Rattle.decomposition.specs.declared.fronts.Front.{Front}
 use Rattle.decomposition.specs.Strips.{isWord, leavesWord, wordRest, firstFront, frontAt, noFront}
 
 -- a form that leaves something leaves it from its own length on
-rest-from : (w form : List ℕ) (n : ℕ) → From n ≡ restOf w form → (leaves w form ≡ true) × (n ≡ length form)
+pub rest-from : (w form : List ℕ) (n : ℕ) → From n ≡ restOf w form → (leaves w form ≡ true) × (n ≡ length form)
 unfolding restOf
 rest-from w form n e = go (leaves w form) refl e
   where
@@ -99,3 +99,12 @@ module _ (ask : Ask) (w : List ℕ) (rows : List (List ℕ)) (k : ℕ) where
 
   pub front-end : length rows ≤ k → firstFront ask w k (drop k rows) ≡ noFront
   front-end h = rw (drop-of-length-le rows h)
+
+-- a form without a rest leaves nothing
+pub rest-nothing : (w form : List ℕ) → Nothing ≡ restOf w form → leaves w form ≡ false
+unfolding restOf
+rest-nothing w form e = go (leaves w form) refl e
+  where
+    go : (b : Bool) → leaves w form ≡ b → Nothing ≡ pick b (From (length form)) Nothing → leaves w form ≡ false
+    go true l q = let z : _≡_ {A = ℕ} 0 1 = cc in absurd (omega arith)
+    go false l q = l

@@ -26,7 +26,7 @@ ghost use Rattle.tables.specs.Rows.{suffixes, prefixForms};
 ghost use Rattle.tables.specs.Tables.{Laid};
 ghost use Rattle.strips.specs.Suffix.{fronts};
 ghost use Rattle.strips.proofs.Remainders.{Inside};
-ghost use Rattle.decomposition.specs.Strips.{labelRow, leastRoot};
+ghost use Rattle.decomposition.specs.Strips.{labelRow, leastRoot, noFront};
 ghost use Rattle.roots.specs.Lists.{rowsOf, rootLimit};
 ghost use Rattle.roots.specs.Candidates.{points, isKnown, scoreBy, heldOf, heldAll, partsAmong, oneSuffix, bare, underForms, Lent};
 
@@ -242,4 +242,174 @@ fn with_suffix(
         k += 1;
     }
     l
+}
+
+// What stands behind a front with no suffix, then with one.
+fn with_front(
+    word: &[u8],
+    sheet: &[u8],
+    starts: &[Start],
+    texts: &[u8],
+    cuts: &[u16],
+    labels: &[u8],
+    label_cuts: &[u16],
+    surface: u16,
+    front: Front,
+    list: Roots,
+) -> Roots
+    requires { ⌜ Lent (now word) (now sheet) (now starts) (now texts) (now cuts) (now labels) (now «label_cuts») surface
+        × (front .count ≤ 1) × (front .from ≤ length (now word)) × (list .count ≤ rootLimit) ⌝ }
+    ensures { λ r. ⌜ (rowsOf r ≡ heldAll rootLimit (reply (now (sheet .entry))) (now (word .entry)) (rowsOf list)
+        (bare (now (word .entry)) front ∷ oneSuffix (reply (now (sheet .entry))) (now (word .entry)) front)) × (r .count ≤ rootLimit) ⌝ }
+{
+    let from = front.from;
+    let p = Parts {
+        start: from as u8,
+        end: word.len() as u8,
+        prefix: front.row,
+        prefix_count: front.count,
+        suffix_count: 0,
+        suffixes: [0; 24],
+    };
+    let l = offer(
+        word,
+        sheet,
+        starts,
+        texts,
+        cuts,
+        labels,
+        label_cuts,
+        surface,
+        p,
+        list,
+    );
+    with_suffix(
+        word,
+        sheet,
+        starts,
+        texts,
+        cuts,
+        labels,
+        label_cuts,
+        surface,
+        front,
+        l,
+    )
+}
+
+// One prefix row with none or one suffix.
+pub(crate) fn with_prefix(
+    word: &[u8],
+    sheet: &[u8],
+    starts: &[Start],
+    texts: &[u8],
+    cuts: &[u16],
+    labels: &[u8],
+    label_cuts: &[u16],
+    forms: &[u8],
+    form_cuts: &[u16],
+    surface: u16,
+    list: Roots,
+) -> Roots
+    requires { ⌜ Lent (now word) (now sheet) (now starts) (now texts) (now cuts) (now labels) (now «label_cuts») surface
+        × Laid prefixForms (now forms) (now «form_cuts») × (list .count ≤ rootLimit) ⌝ }
+    ensures { λ r. ⌜ (rowsOf r ≡ heldAll rootLimit (reply (now (sheet .entry))) (now (word .entry)) (rowsOf list)
+        (underForms (reply (now (sheet .entry))) (now (word .entry)) 0 prefixForms)) × (r .count ≤ rootLimit) ⌝ }
+{
+    let mut l = list;
+    let mut k: u8 = 0;
+    while k < 30 {
+        let i = k as usize;
+        let rest = prefix_rest(word, row(forms, form_cuts, i));
+        if let Rest::From(n) = rest {
+            let front = Front {
+                count: 1,
+                row: k,
+                from: n,
+            };
+            l = with_front(
+                word,
+                sheet,
+                starts,
+                texts,
+                cuts,
+                labels,
+                label_cuts,
+                surface,
+                front,
+                l,
+            );
+        }
+        k += 1;
+    }
+    l
+}
+
+// The word and its decomposition, then one suffix.
+pub(crate) fn with_word(
+    word: &[u8],
+    sheet: &[u8],
+    starts: &[Start],
+    texts: &[u8],
+    cuts: &[u16],
+    labels: &[u8],
+    label_cuts: &[u16],
+    surface: u16,
+    p: Parts,
+    list: Roots,
+) -> Roots
+    requires { ⌜ Lent (now word) (now sheet) (now starts) (now texts) (now cuts) (now labels) (now «label_cuts») surface
+        × (p .«prefix_count» ≤ 1) × (p .«suffix_count» ≤ 24) × (list .count ≤ rootLimit) ⌝ }
+    ensures { λ r. ⌜ (rowsOf r ≡ heldAll rootLimit (reply (now (sheet .entry))) (now (word .entry)) (rowsOf list)
+        (bare (now (word .entry)) noFront ∷ p ∷ oneSuffix (reply (now (sheet .entry))) (now (word .entry)) noFront)) × (r .count ≤ rootLimit) ⌝ }
+{
+    let whole = Parts {
+        start: 0,
+        end: word.len() as u8,
+        prefix: 0,
+        prefix_count: 0,
+        suffix_count: 0,
+        suffixes: [0; 24],
+    };
+    let first = offer(
+        word,
+        sheet,
+        starts,
+        texts,
+        cuts,
+        labels,
+        label_cuts,
+        surface,
+        whole,
+        list,
+    );
+    let second = offer(
+        word,
+        sheet,
+        starts,
+        texts,
+        cuts,
+        labels,
+        label_cuts,
+        surface,
+        p,
+        first,
+    );
+    let front = Front {
+        count: 0,
+        row: 0,
+        from: 0,
+    };
+    with_suffix(
+        word,
+        sheet,
+        starts,
+        texts,
+        cuts,
+        labels,
+        label_cuts,
+        surface,
+        front,
+        second,
+    )
 }

@@ -23,11 +23,10 @@ insert-at-requires : tie.Need-insert-at-requires
 insert-at-requires c κs = search needs
 
 returns-3 : tie.Need-returns-3
-returns-3 c = 
+returns-3 c =
     let s = c .before .before .before .before .before .before .before .before .before .before .before .before in
     let e = c .before .before in
-    let l : length (s .args .list .rows) ≡ 16 = simp length-map at (s .good .1 .1 .1 .1 .1 .0 .1 .1 .0 .1 .0 .1) in
-    (
+    let l : length (s .args .list .rows) ≡ 16 = simp length-map at (s .good .1 .1 .1 .1 .1 .0 .1 .1 .0 .1 .0 .1) in (
       once-room (s .args .word .now) (s .args .list) (s .args .r) (sym (c .before .before .before .before .if1 .left) ∙ c .before .before .before .before .before .holds .ensures) l (c .insert-at .result) (c .before .place .result) (e .if2 .left) (c .before .place .ensures .0) (c .insert-at .ensures .0),
       omega (arith, c .insert-at .ensures .1, e .if2 .left),
     )

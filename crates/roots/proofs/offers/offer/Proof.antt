@@ -19,7 +19,7 @@ is-known-requires : tie.Need-is-known-requires
 is-known-requires c κs = search needs
 
 returns : tie.Need-returns
-returns c = 
+returns c =
     let s = c .before .before .before .before .before .before .before .before .before .before .before .before in
     let l = c .before .before in
     (offer-unknown (s .args .sheet .now) (s .args .word .now) (s .args .p) (l .letters-of .result) (c .before .before .before .before .root-of .result .now) (l .letters-of .ensures) (c .before .before .before .before .root-of .ensures) 16 _ (sym (c .before .is-known .ensures) ∙ not-true _ (c .if1 .taken)), s .pre .3)
@@ -34,14 +34,13 @@ add-requires : tie.Need-add-requires
 add-requires c κs = search needs
 
 returns-2 : tie.Need-returns-2
-returns-2 c = 
+returns-2 c =
     let s = c .before .before .before .before .before .before .before .before .before .before .before .before .before .before .before in
     let l = c .before .before .before .before .before in
     let o = c .before .before .before .before .before .before .before in
     let k = c .before in
     let d = c .before .before in
-    let e = c .before .before .before in
-    (
+    let e = c .before .before .before in (
       offer-known (s .args .sheet .now) (s .args .word .now) (s .args .p) (l .letters-of .result) (o .root-of .result .now) (l .letters-of .ensures) (o .root-of .ensures) 16 _ _ _
           (sym (c .before .before .before .before .is-known .ensures) ∙ not-false _ (e .if1 .left))
           (candidate-is (s .args .sheet .now) (s .args .word .now) (s .args .p) (l .letters-of .result) (o .root-of .result .now) (l .letters-of .ensures) (o .root-of .ensures)

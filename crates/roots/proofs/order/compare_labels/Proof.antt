@@ -43,7 +43,7 @@ turned c =
     let d = loop c in
     let a = start d .args in
     let q : c .compare .result ≡ cmp (each d (getD (a .a .now) (d .loop .i) 0)) (each d (getD (a .b .now) (d .loop .i) 0)) =
-        c .compare .ensures ∙ cc (c .before .label-at2 .ensures, c .before .before .before .label-at .ensures) in
+    c .compare .ensures ∙ cc (c .before .label-at2 .ensures, c .before .before .before .label-at .ensures) in
     let e = c .before .before .before .before .before in
     d .loop .inv .2 ∙ labels-decided (each d) (a .a .now) (a .b .now) (d .loop .i) (c .compare .result) (e .before .loop-test .taken) (omega (arith, e .if1 .left)) q
 
@@ -51,7 +51,7 @@ loop-holds : tie.Need-loop-holds Inv-loop μ-loop
 loop-holds c = (omega arith, omega arith, refl)
 
 returns : tie.Need-returns Inv-loop μ-loop
-returns c = 
+returns c =
     let d = c .before .before in
     let a = start d .args in
     sym (d .loop .inv .2 ∙ labels-long (each d) (a .a .now) (a .b .now) (d .loop .i) (c .before .loop-test .taken) (c .if1 .taken))
@@ -96,13 +96,13 @@ loop-again : tie.Need-loop-again Inv-loop μ-loop
 loop-again c = let d = c .before .before in (omega arith, omega arith, turned d ∙ ap (λ (o : Order). thenBy o (rest d)) (c .enum-told3 .given .1))
 
 returns-4 : tie.Need-returns-4 Inv-loop μ-loop
-returns-4 c = 
+returns-4 c =
     let d = c .before .before in
     let a = start d .args in
     sym (d .loop .inv .2 ∙ labels-short (each d) (a .a .now) (a .b .now) (d .loop .i) (c .before .loop-test .left) (c .if2 .taken))
 
 returns-5 : tie.Need-returns-5 Inv-loop μ-loop
-returns-5 c = 
+returns-5 c =
     let d = c .before .before in
     let a = start d .args in
     sym (d .loop .inv .2 ∙ labels-ended (each d) (a .a .now) (a .b .now) (d .loop .i) (c .before .loop-test .left) (c .if2 .left))

@@ -46,7 +46,7 @@ unfolding keyOrder
 returns c = decides _ _ _ (compared (c .before .before)) (sym (c .before .is-equal .ensures) ∙ not-true _ (c .if1 .taken))
 
 prefix-order-requires : tie.Need-prefix-order-requires
-prefix-order-requires c κs = 
+prefix-order-requires c κs =
     let a = c .before .before .before .before .before .before .before .before .before .before in
     laid-asks (a .pre .1) 0 (rw prefix-label-count (omega arith)) .0
 
@@ -55,20 +55,20 @@ is-equal-requires-2 c κs = search needs
 
 returns-2 : tie.Need-returns-2
 unfolding keyOrder
-returns-2 c = 
+returns-2 c =
     let p = c .before .before in
     let e = p .before in
     passes _ _ _ _ (compared (e .before .before)) (sym (e .before .is-equal .ensures) ∙ not-false _ (e .if1 .left))
     (decides _ _ _ (prefixed p) (sym (c .before .is-equal2 .ensures) ∙ not-true _ (c .if2 .taken)))
 
 suffix-order-requires : tie.Need-suffix-order-requires
-suffix-order-requires c κs = 
+suffix-order-requires c κs =
     let a = c .before .before .before .before .before .before .before .before .before .before .before .before .before in
     laid-asks (a .pre .0) 0 (rw suffix-count (omega arith)) .0
 
 returns-3 : tie.Need-returns-3
 unfolding keyOrder
-returns-3 c = 
+returns-3 c =
     let d = c .before in
     let p = d .before .before in
     let e = p .before in

@@ -60,7 +60,7 @@ is-equal-requires-2 c κs = search needs
 
 returns-2 : tie.Need-returns-2
 unfolding rankOf
-returns-2 c = 
+returns-2 c =
     let h = c .before .before in
     by-score (h .before) (decides _ _ _ (h .having-first .ensures) (sym (c .before .is-equal2 .ensures) ∙ not-true _ (c .if2 .taken)))
 
@@ -72,7 +72,7 @@ is-equal-requires-3 c κs = search needs
 
 returns-3 : tie.Need-returns-3
 unfolding rankOf
-returns-3 c = 
+returns-3 c =
     let k = c .before .before in
     let e = k .before in
     by-score (e .before .before .before) (by-head e (decides _ _ _ (k .having-first2 .ensures) (sym (c .before .is-equal3 .ensures) ∙ not-true _ (c .if3 .taken))))
@@ -97,7 +97,7 @@ is-equal-requires-4 c κs = search needs
 
 returns-4 : tie.Need-returns-4
 unfolding rankOf
-returns-4 c = 
+returns-4 c =
     let n = c .before .before in
     let e = n .before .before .before .before .before .before .before in
     let f = e .before .before .before in
@@ -108,7 +108,7 @@ key-order-requires c κs = let s = c .before .before .before .before .before .be
 
 returns-5 : tie.Need-returns-5
 unfolding rankOf
-returns-5 c = 
+returns-5 c =
     let d = c .before in
     let n = d .before .before in
     let e = n .before .before .before .before .before .before .before in

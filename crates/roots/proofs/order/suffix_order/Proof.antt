@@ -30,7 +30,7 @@ compare-labels-requires : tie.Need-compare-labels-requires
 compare-labels-requires c κs = search needs
 
 returns : tie.Need-returns
-returns c = 
+returns c =
     let a = c .before .before .before .before .before .before .before .before .before .before .before .args in
     c .compare-labels .ensures
     ∙ ap (λ (x : List ℕ). cmpTexts (map (labelAt (a .texts .now) (a .cuts .now)) x) (map (labelAt (a .texts .now) (a .cuts .now)) (c .before .first-of2 .result .now))) (c .before .before .before .first-of .ensures)
