@@ -2,3 +2,4 @@ pub mod Taken
 pub mod Stages
 pub mod Leading
 pub mod Short
+pub mod Few

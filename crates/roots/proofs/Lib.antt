@@ -2,3 +2,4 @@ pub mod Labels
 pub mod Alternatives
 pub mod Kept
 pub mod Offered
+pub mod Bounded
