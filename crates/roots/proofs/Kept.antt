@@ -5,14 +5,15 @@ use native.Mathlib.Omega.{arith}
 use mathlib.Core.Path.{_≡_, refl, sym, ap, _∙_}
 use mathlib.Core.Bool.{Bool, true, false}
 use mathlib.Core.List.{List, [], _∷_}
-use lib.ListN.{length, take}
+use lib.ListN.{length, take, drop, getD}
+use lib.Dec.{ltb}
 use lib.Seq.{length-take-le, take-all}
 use borrow.Author.Tests.{lt-ltb, le-ltb}
 use Rattle.runs.specs.Runs.{pick}
 use Rattle.ranking.specs.Places.{putIn}
 use Rattle.decomposition.specs.declared.Parts.{Parts}
 use Rattle.roots.specs.Rank.{isEqual, keyOrder, aheadOf}
-use Rattle.roots.specs.Lists.{rowsOf, holdsIn, ranked, placeIn, onceWithin, rootLimit}
+use Rattle.roots.specs.Lists.{rowsOf, isSome, holdsIn, ranked, placeIn, onceWithin, rootLimit, noCandidate}
 use Rattle.roots.specs.declared.RootCandidate.{RootCandidate}
 use Rattle.roots.specs.declared.Roots.{Roots}
 
@@ -72,3 +73,21 @@ module _ (w : List ℕ) (list : Roots) (r : RootCandidate) where
     once-room next at h p q =
         let n : length (take (list .count) (list .rows)) ≡ list .count = length-take-le (list .count) (list .rows) (omega arith) in
         rw (sym e, n, lt-ltb (list .count) 16 h, q, p, ranked-put w r (rowsOf list))
+
+-- whether a list has a row, and its first
+module _ (l : Roots) (n : length (l .rows) ≡ 16) where
+  pub some-rows : ltb 0 (l .count) ≡ isSome (rowsOf l)
+  some-rows = go (l .count) (l .rows) n
+    where
+      go : (k : ℕ) (xs : List RootCandidate) → length xs ≡ 16 → ltb 0 k ≡ isSome (take k xs)
+      go zero xs e = refl
+      go (suc k) [] e = absurd (omega arith)
+      go (suc k) (x ∷ xs) e = lt-ltb 0 (suc k) (omega arith)
+
+  pub first-row : isSome (rowsOf l) ≡ true → rowsOf l ≡ getD (l .rows) 0 noCandidate ∷ drop 1 (rowsOf l)
+  first-row s = go (l .count) (l .rows) s
+    where
+      go : (k : ℕ) (xs : List RootCandidate) → isSome (take k xs) ≡ true → take k xs ≡ getD xs 0 noCandidate ∷ drop 1 (take k xs)
+      go zero xs e = let z : _≡_ {A = ℕ} 0 1 = cc in absurd (omega arith)
+      go (suc k) [] e = let z : _≡_ {A = ℕ} 0 1 = cc in absurd (omega arith)
+      go (suc k) (x ∷ xs) e = refl

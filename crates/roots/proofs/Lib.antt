@@ -3,3 +3,4 @@ pub mod Alternatives
 pub mod Kept
 pub mod Offered
 pub mod Bounded
+pub mod Firsts

@@ -1,3 +1,4 @@
 pub mod Rank
 pub mod Lists
 pub mod Candidates
+pub mod Answers

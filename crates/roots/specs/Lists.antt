@@ -19,6 +19,11 @@ rootLimit = 16
 abbrev pub rowsOf : Roots → List RootCandidate
 rowsOf l = take (l .count) (l .rows)
 
+-- there is a row
+abbrev pub isSome : List RootCandidate → Bool
+isSome [] = false
+isSome (x ∷ xs) = true
+
 -- some row has the root, prefixes and suffixes of p
 unfoldable pub holdsIn : List ℕ → Parts → List RootCandidate → Bool
 holdsIn w p [] = false

@@ -15,6 +15,7 @@ ghost use Rattle.tables.specs.Tables.{Laid};
 ghost use Rattle.roots.specs.Lists.{rowsOf, rootLimit};
 ghost use Rattle.roots.specs.Candidates.{candidates};
 
+pub mod entries;
 pub mod list;
 pub mod offers;
 pub mod order;

@@ -8,13 +8,15 @@ use decomposition::Parts;
 use runs::Order;
 use tables::origins::Origin;
 ghost use mathlib.Core.Path.{_≡_};
-ghost use mathlib.Core.List.{[]};
+ghost use mathlib.Core.Bool.{true};
+ghost use mathlib.Core.List.{[], _∷_};
+ghost use lib.ListN.{drop};
 ghost use Prim.Native.Nat.{_+_, _≤_, _<_};
 ghost use Rattle.tables.specs.Rows.{suffixes, prefixLabels};
 ghost use Rattle.tables.specs.Tables.{Laid};
 ghost use Rattle.ranking.specs.Places.{putIn};
 ghost use Rattle.roots.specs.Rank.{aheadOf};
-ghost use Rattle.roots.specs.Lists.{rowsOf, holdsIn, placeIn, onceWithin, rootLimit};
+ghost use Rattle.roots.specs.Lists.{rowsOf, isSome, holdsIn, placeIn, onceWithin, rootLimit};
 
 // Whether candidate a comes before b.
 fn ahead(
@@ -156,4 +158,19 @@ pub(crate) fn nothing() -> Roots
         rows: [r; 16],
         count: 0,
     }
+}
+
+// Whether the list has a candidate.
+pub fn is_some(list: Roots) -> bool
+    ensures { λ r. ⌜ r ≡ isSome (rowsOf list) ⌝ }
+{
+    0 < list.count
+}
+
+// The first candidate of a list that has one.
+pub(crate) fn first(list: Roots) -> RootCandidate
+    requires { ⌜ isSome (rowsOf list) ≡ true ⌝ }
+    ensures { λ r. ⌜ rowsOf list ≡ r ∷ drop 1 (rowsOf list) ⌝ }
+{
+    list.rows[0]
 }
