@@ -37,9 +37,9 @@ use Rattle.progressive.specs.Answers.{bySheet, byWord, answerOf, Lies, Analyzed
 use Rattle.origin.specs.Decisions.{decisionOf}
 use Rattle.origin.specs.Answers as origins
 use Rattle.origin.specs.declared.entries.Refusal.{Refusal}
-use Rattle.origin.specs.declared.entries.Refusal.the-variants as refusals
 use Rattle.origin.specs.declared.entries.Inputs.{Inputs}
 use Rattle.origin.specs.declared.entries.Inputs.the-variants as inputs
+use Rattle.exports.specs.Filled.{Placed}
 use Rattle.origin.specs.declared.entries.DecisionAnswer.{DecisionAnswer}
 use Rattle.origin.specs.declared.entries.DecisionAnswer.the-variants as decisions
 
@@ -126,15 +126,6 @@ form-small w s r f k e =
     let l = subst (Lies w s) e (k .answered .lies) in
     (omega (arith, n, l), n .2, omega (arith, n, l))
 
--- the faulty line of a refusal begins inside the sheet
-abbrev pub Placed : Refusal → Type 0
-Placed refusals.WordTooLong = Unit {0}
-Placed refusals.WordNotUtf8 = Unit {0}
-Placed refusals.WordForbidden = Unit {0}
-Placed refusals.SheetTooLong = Unit {0}
-Placed (refusals.SheetNoForm at) = at < sheetLimit
-Placed (refusals.SheetNotAbove at) = at < sheetLimit
-
 abbrev PlacedIn : Inputs → Type 0
 PlacedIn inputs.Accepted = Unit {0}
 PlacedIn (inputs.Refused r) = Placed r
@@ -170,3 +161,7 @@ decision-placed w s = by (origins.inputsOf w s) (inputs-placed w s)
 -- the answer d turned out to be the refusal r, and that to be q
 pub refused-placed : (w s : List ℕ) (d : DecisionAnswer) (r q : Refusal) → d ≡ origins.decisionAnswer w s → d ≡ decisions.Refused r → r ≡ q → Placed q
 refused-placed w s d r q e f g = subst Placed g (subst PlacedBy (sym e ∙ f) (decision-placed w s))
+
+-- what is said of word and sheet, i, turned out to be the refusal r
+pub inputs-refused : (w s : List ℕ) (i : Inputs) (r : Refusal) → i ≡ origins.inputsOf w s → i ≡ inputs.Refused r → Placed r
+inputs-refused w s i r e f = subst PlacedIn (sym e ∙ f) (inputs-placed w s)

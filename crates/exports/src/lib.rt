@@ -20,6 +20,8 @@ ghost use Rattle.progressive.specs.Answers.{answerOf};
 ghost use Rattle.origin.specs.Answers.{decisionAnswer};
 ghost use Rattle.exports.specs.Codes.{sheetCode, formCode, progressiveCode, originNumber, sourceNumber, originCode, confidenceOf};
 
+pub mod parts;
+
 // 0 for a word that is accepted, else document 01's number: 1, 2 or 3.
 #[no_mangle]
 pub extern "C" fn yunthirel_check_word(word: &[u8]) -> u64
