@@ -3,3 +3,5 @@ pub mod Stages
 pub mod Leading
 pub mod Short
 pub mod Few
+pub mod Worked
+pub mod Reached

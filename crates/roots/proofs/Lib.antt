@@ -4,3 +4,4 @@ pub mod Kept
 pub mod Offered
 pub mod Bounded
 pub mod Firsts
+pub mod Worked
