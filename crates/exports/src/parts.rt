@@ -1,6 +1,6 @@
 // Decompositions and root candidates, stored in a lent buffer of bytes.
-use bytes::copy;
 use crate::origin_number;
+use bytes::copy;
 use decomposition::Morpheme;
 use decomposition::Parts;
 use decomposition::entries::decompose;
@@ -40,9 +40,39 @@ fn put_parts(p: Parts, a: u8, b: u8, c: u8, d: u8, out: &mut [u8])
 {
     let s = p.suffixes;
     let all = [
-        p.start, p.end, p.prefix, p.prefix_count, p.suffix_count, a, b, c, d, s[0], s[1], s[2],
-        s[3], s[4], s[5], s[6], s[7], s[8], s[9], s[10], s[11], s[12], s[13], s[14], s[15], s[16],
-        s[17], s[18], s[19], s[20], s[21], s[22], s[23],
+        p.start,
+        p.end,
+        p.prefix,
+        p.prefix_count,
+        p.suffix_count,
+        a,
+        b,
+        c,
+        d,
+        s[0],
+        s[1],
+        s[2],
+        s[3],
+        s[4],
+        s[5],
+        s[6],
+        s[7],
+        s[8],
+        s[9],
+        s[10],
+        s[11],
+        s[12],
+        s[13],
+        s[14],
+        s[15],
+        s[16],
+        s[17],
+        s[18],
+        s[19],
+        s[20],
+        s[21],
+        s[22],
+        s[23],
     ];
     copy(&all, out);
 }

@@ -5,3 +5,5 @@ pub mod Offered
 pub mod Bounded
 pub mod Firsts
 pub mod Worked
+pub mod Reached
+pub mod Total

@@ -36,7 +36,7 @@ same-length : tie.Need-same-length
 same-length c = search needs
 
 returns : tie.Need-returns
-returns c = 
+returns c =
     let a = c .before .before .before .before .before .before .before .before .before .before .before .args in
     c .before .before .put-parts .ensures ∙ ap (λ (l : List ℕ). l ++ drop 33 (a .out .now)) (candidate-bytes (a .c) (c .before .before .before .before .before .before .before .before .origin-byte .ensures) (c .before .before .before .before .before .before .before .bit-of .ensures .0) (c .before .before .before .before .before .before .bit-of2 .ensures .0))
 

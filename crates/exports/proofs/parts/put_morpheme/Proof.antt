@@ -22,7 +22,7 @@ same-length : tie.Need-same-length
 same-length c = search needs
 
 returns-2 : tie.Need-returns-2
-returns-2 c = 
+returns-2 c =
     let a = c .before .before .before .before .before .before .before .before .args in
     stored-long 0 (morphemeBytes (a .m)) (a .out .now) _ (c .before .before .before .before .before .before .if1 .left) (c .before .before .put-parts .ensures ∙ ap (λ (l : List ℕ). l ++ drop 33 (a .out .now)) (morpheme-bytes (a .m) (c .before .before .before .before .origin-byte .ensures)))
 

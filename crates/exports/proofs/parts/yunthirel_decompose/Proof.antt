@@ -24,7 +24,7 @@ put-morpheme-requires : tie.Need-put-morpheme-requires
 put-morpheme-requires c κs = search needs
 
 returns : tie.Need-returns
-returns c = 
+returns c =
     let d = c .before .before .before .before .before in
     let a = c .before .before .before .before .before .before .before .before .before .args in
     both (ap (λ (i : Inputs). decomposeIf i (d .decompose .result .morpheme) (a .out .now)) (sym (c .before .before .inputs .given .1)) ∙ decompose-is (a .word .now) (a .sheet .now) (a .out .now) (d .decompose .result) (d .decompose .ensures)) (c .refusal-code .ensures, refl)
@@ -33,7 +33,7 @@ same-length : tie.Need-same-length
 same-length c = search needs
 
 returns-2 : tie.Need-returns-2
-returns-2 c = 
+returns-2 c =
     let d = c .before .before .before .before .before .before .before in
     let a = c .before .before .before .before .before .before .before .before .before .before .before .args in
     both (ap (λ (i : Inputs). decomposeIf i (d .decompose .result .morpheme) (a .out .now)) (sym (c .before .before .before .before .enum-told .given .1)) ∙ decompose-is (a .word .now) (a .sheet .now) (a .out .now) (d .decompose .result) (d .decompose .ensures)) (c .before .before .put-morpheme .ensures)

@@ -25,7 +25,7 @@ put-root-requires : tie.Need-put-root-requires
 put-root-requires c κs = search needs
 
 returns : tie.Need-returns
-returns c = 
+returns c =
     let d = c .before .before .before .before .before in
     let g = d .lookup-root-candidates .ensures in
     let a = c .before .before .before .before .before .before .before .before .before .args in
@@ -35,7 +35,7 @@ same-length : tie.Need-same-length
 same-length c = search needs
 
 returns-2 : tie.Need-returns-2
-returns-2 c = 
+returns-2 c =
     let d = c .before .before .before .before .before .before .before in
     let g = d .lookup-root-candidates .ensures in
     let a = c .before .before .before .before .before .before .before .before .before .before .before .args in
