@@ -6,6 +6,7 @@ use mathlib.Core.List.{List, [], _∷_}
 use lib.ListN.{length, take, drop}
 use Rattle.tables.specs.Rows.{prefixForms, suffixes}
 use Rattle.sheet.specs.Replies.{Ask}
+use Rattle.ranking.specs.Parts.{part}
 use Rattle.origin.specs.Decisions.{decisionOf}
 use Rattle.decomposition.specs.declared.fronts.Front.{Front}
 use Rattle.decomposition.specs.declared.suffixes.Left.{Left}
@@ -62,6 +63,10 @@ partsOf f root labels = record {
   «suffix_count» = length labels;
   suffixes = filled labelLimit labels;
 }
+
+-- the root of parts of w
+abbrev pub rootText : List ℕ → Parts → List ℕ
+rootText w p = part w (p .start) (p .end)
 
 -- the first prefix row, then every suffix row on what remains
 unfoldable pub behindFront : Ask → List ℕ → Front → Stage

@@ -3,6 +3,7 @@ use crate::fronts::first_front;
 use crate::suffixes::strip_rows;
 use lookup::starts::Start;
 use origin::classify_in;
+use ranking::part_of;
 use tables::origins::Origin;
 ghost use mathlib.Core.Path.{_≡_};
 ghost use Prim.Native.Nat.{_+_, _≤_, _<_};
@@ -11,7 +12,7 @@ ghost use Rattle.sheet.specs.Replies.{reply, Indexed};
 ghost use Rattle.tables.specs.Rows.{suffixes, prefixForms};
 ghost use Rattle.tables.specs.Tables.{Laid};
 ghost use Rattle.decomposition.specs.Strips.{leastRoot};
-ghost use Rattle.decomposition.specs.Parts.{decomposedOf, morphemeOf};
+ghost use Rattle.decomposition.specs.Parts.{rootText, decomposedOf, morphemeOf};
 
 pub mod entries;
 pub mod fronts;
@@ -32,6 +33,15 @@ pub struct Parts {
 pub struct Morpheme {
     pub parts: Parts,
     pub origin: Origin,
+}
+
+// The root of parts, a part of the lent word; nothing where its place does not lie inside the word.
+pub fn root_of<'w>(word: &'w [u8], p: Parts) -> &'w [u8]
+    ensures { λ r. ⌜ now r ≡ rootText (now (word .entry)) p ⌝ }
+{
+    let from = p.start as usize;
+    let to = p.end as usize;
+    part_of(word, from, to)
 }
 
 // The fewest characters of a remainder: 1, or 4 after a prefix.

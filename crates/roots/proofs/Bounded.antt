@@ -21,10 +21,10 @@ use Rattle.sheet.specs.declared.letters.Letters.{Letters}
 use Rattle.strips.specs.Suffix.{sheds, isLong, without, firstCharacter, plain, shared, remainders}
 use Rattle.strips.specs.Prefix.{leaves, leastAfter, after}
 use Rattle.decomposition.specs.Strips.{labelRow, leastRoot, isKept, leftOf, noFront, frontAt}
-use Rattle.decomposition.specs.Parts.{partsOf, decomposedOf}
+use Rattle.decomposition.specs.Parts.{rootText, partsOf, decomposedOf}
 use Rattle.decomposition.specs.declared.Parts.{Parts}
 use Rattle.decomposition.specs.declared.fronts.Front.{Front}
-use Rattle.roots.specs.Rank.{rootText, aheadOf}
+use Rattle.roots.specs.Rank.{aheadOf}
 use Rattle.roots.specs.Lists.{holdsIn, ranked, once, onceWithin, rootLimit}
 use Rattle.roots.specs.Candidates.{isKnown, candidateBy, keptBy, keptOf, keptAll, heldBy, heldOf, heldAll, partsAmong, underRow, underRows, bare, oneSuffix, underForm, underForms, offers, candidates}
 use Rattle.roots.proofs.Offered.{held-append}

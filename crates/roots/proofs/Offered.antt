@@ -23,12 +23,11 @@ use Rattle.strips.specs.declared.prefix.Rest.the-variants.{Nothing, From}
 use Rattle.origin.specs.Decisions.{decisionOf}
 use Rattle.origin.specs.declared.OriginDecision.{OriginDecision}
 use Rattle.decomposition.specs.Strips.{labelRow, leastRoot, leftOf, openRests, frontAt, noRests}
-use Rattle.decomposition.specs.Parts.{partsOf, filled}
+use Rattle.decomposition.specs.Parts.{rootText, partsOf, filled}
 use Rattle.decomposition.specs.declared.Parts.{Parts}
 use Rattle.decomposition.specs.declared.fronts.Front.{Front}
 use Rattle.decomposition.proofs.Taken.{own-letters, open-say}
 use Rattle.decomposition.proofs.Leading.{rest-from, rest-nothing}
-use Rattle.roots.specs.Rank.{rootText}
 use Rattle.roots.specs.Lists.{onceWithin}
 use Rattle.roots.specs.Candidates.{isKnown, scoreBy, candidateBy, heldOf, heldAll, partsAmong, underRow, underRows, bare, oneSuffix, underForm, underForms}
 use Rattle.roots.specs.declared.RootCandidate.{RootCandidate}

@@ -13,7 +13,8 @@ use Rattle.text.specs.Characters.{chars}
 use Rattle.ranking.specs.Rank.{isLess}
 use Rattle.sheet.specs.Replies.{Ask, lettersBy}
 use Rattle.decomposition.specs.declared.Parts.{Parts}
-use Rattle.roots.specs.Rank.{isEqual, thenBy, descending, having, cmpTexts, rootText, prefixTexts, suffixTexts, keyOrder, rankOf, aheadOf}
+use Rattle.decomposition.specs.Parts.{rootText}
+use Rattle.roots.specs.Rank.{isEqual, thenBy, descending, having, cmpTexts, prefixTexts, suffixTexts, keyOrder, rankOf, aheadOf}
 use Rattle.roots.specs.Lists.{holdsIn, ranked, once}
 use Rattle.roots.specs.Candidates.{isKnown, candidateBy, keptBy, keptOf, keptAll, offers, candidates}
 use Rattle.roots.specs.declared.RootCandidate.{RootCandidate}

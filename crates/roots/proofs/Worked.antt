@@ -24,8 +24,8 @@ use Rattle.origin.specs.Answers.{inputsOf}
 use Rattle.origin.specs.Decisions.{knownIn, knownBy, knownRest, knownUnder, knownStem, decisionOf}
 use Rattle.ranking.specs.Parts.{part}
 use Rattle.decomposition.specs.Strips.{isWord, labelRow, leastRoot, isKept, leftOf, isTaken, stripRow, leavesWord}
-use Rattle.decomposition.specs.Parts.{behindFront, decomposedOf}
-use Rattle.roots.specs.Rank.{rootText, prefixTexts, suffixTexts, keyOrder, rankOf, aheadOf}
+use Rattle.decomposition.specs.Parts.{rootText, behindFront, decomposedOf}
+use Rattle.roots.specs.Rank.{prefixTexts, suffixTexts, keyOrder, rankOf, aheadOf}
 use Rattle.roots.specs.Lists.{holdsIn, ranked, once}
 use Rattle.roots.specs.Candidates.{scoreBy, candidateBy, keptOf, keptAll, underRow, oneSuffix, underForm, offers, candidates}
 use Rattle.roots.specs.Answers.{rootsFor}

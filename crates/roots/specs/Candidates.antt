@@ -15,10 +15,9 @@ use Rattle.sheet.specs.declared.letters.Letters.{Letters}
 use Rattle.strips.specs.Prefix.{leaves}
 use Rattle.origin.specs.Decisions.{decisionOf}
 use Rattle.decomposition.specs.Strips.{labelRow, leastRoot, leftOf, noFront, frontAt}
-use Rattle.decomposition.specs.Parts.{partsOf, decomposedOf}
+use Rattle.decomposition.specs.Parts.{rootText, partsOf, decomposedOf}
 use Rattle.decomposition.specs.declared.Parts.{Parts}
 use Rattle.decomposition.specs.declared.fronts.Front.{Front}
-use Rattle.roots.specs.Rank.{rootText}
 use Rattle.roots.specs.Lists.{once, onceWithin, rootLimit}
 use Rattle.roots.specs.declared.RootCandidate.{RootCandidate}
 

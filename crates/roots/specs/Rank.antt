@@ -11,8 +11,8 @@ use Rattle.runs.specs.declared.Order.the-variants.{Less, Equal, Greater}
 use Rattle.text.specs.Characters.{chars}
 use Rattle.tables.specs.Rows.{suffixes, prefixLabels}
 use Rattle.tables.specs.Tables.{rowAt}
-use Rattle.ranking.specs.Parts.{part}
 use Rattle.ranking.specs.Rank.{isLess}
+use Rattle.decomposition.specs.Parts.{rootText}
 use Rattle.decomposition.specs.declared.Parts.{Parts}
 use Rattle.roots.specs.declared.RootCandidate.{RootCandidate}
 
@@ -45,10 +45,7 @@ cmpTexts [] (y ∷ ys) = Less
 cmpTexts (x ∷ xs) [] = Greater
 cmpTexts (x ∷ xs) (y ∷ ys) = thenBy (cmp x y) (cmpTexts xs ys)
 
--- the root and the labels of parts of w
-abbrev pub rootText : List ℕ → Parts → List ℕ
-rootText w p = part w (p .start) (p .end)
-
+-- the labels of parts
 abbrev pub textOf : List (List ℕ) → ℕ → List ℕ
 textOf rows k = getD rows k []
 

@@ -3,10 +3,10 @@
 use crate::RootCandidate;
 use crate::Roots;
 use crate::list::add;
-use crate::order::root_of;
 use decomposition::Parts;
 use decomposition::fronts::Front;
 use decomposition::least_root;
+use decomposition::root_of;
 use decomposition::suffixes::label_row;
 use decomposition::suffixes::open_rests;
 use lookup::answers::letters_of;

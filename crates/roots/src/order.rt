@@ -1,7 +1,7 @@
 // The rank of two candidates of one word, and whether they are the same root, prefixes and suffixes.
 use crate::RootCandidate;
 use decomposition::Parts;
-use ranking::part_of;
+use decomposition::root_of;
 use runs::Order;
 use runs::compare;
 use tables::row;
@@ -10,8 +10,7 @@ ghost use mathlib.Core.List.{map, [], _∷_};
 ghost use lib.ListN.{length, take};
 ghost use Rattle.tables.specs.Rows.{suffixes, prefixLabels};
 ghost use Rattle.tables.specs.Tables.{Laid, Cuts};
-ghost use Rattle.ranking.specs.Parts.{part};
-ghost use Rattle.roots.specs.Rank.{descending, having, isEqual, labelAt, cmpTexts, rootText, keyOrder, rankOf};
+ghost use Rattle.roots.specs.Rank.{descending, having, isEqual, labelAt, cmpTexts, keyOrder, rankOf};
 
 // Whether two things stand alike.
 pub(crate) fn is_equal(o: Order) -> bool
@@ -102,15 +101,6 @@ pub(crate) fn compare_labels(texts: &[u8], cuts: &[u16], a: &[u8], b: &[u8]) -> 
         return Order::Less;
     }
     Order::Equal
-}
-
-// The root of a candidate, a part of the lent word.
-pub fn root_of<'w>(word: &'w [u8], p: Parts) -> &'w [u8]
-    ensures { λ r. ⌜ now r ≡ rootText (now (word .entry)) p ⌝ }
-{
-    let from = p.start as usize;
-    let to = p.end as usize;
-    part_of(word, from, to)
 }
 
 // The order of two lists of suffix labels.

@@ -8,7 +8,8 @@ use borrow.Author.Tests.{not-true, not-false}
 use Rattle.runs.specs.Runs.{cmp}
 use Rattle.tables.proofs.Laid.{laid-asks}
 use Rattle.tables.proofs.Facts.{suffix-count, prefix-label-count}
-use Rattle.roots.specs.Rank.{rootText, cmpTexts, prefixTexts, keyOrder}
+use Rattle.decomposition.specs.Parts.{rootText}
+use Rattle.roots.specs.Rank.{cmpTexts, prefixTexts, keyOrder}
 use Rattle.roots.proofs.Labels.{labels-laid}
 use Rattle.roots.proofs.Alternatives.{decides, passes}
 use borrow.Author.Needs.{needs}

@@ -4,7 +4,8 @@ use Prim.Native.Nat.{ℕ}
 use borrow.Author.Tests.{not-true, not-false}
 use Rattle.runs.specs.declared.Order.{Order}
 use Rattle.text.specs.Characters.{chars}
-use Rattle.roots.specs.Rank.{thenBy, descending, having, rootText, rankOf}
+use Rattle.decomposition.specs.Parts.{rootText}
+use Rattle.roots.specs.Rank.{thenBy, descending, having, rankOf}
 use Rattle.roots.proofs.Alternatives.{decides, passes}
 use borrow.Author.Needs.{needs}
 use Rattle.roots.proofs.order.rank.Statement.{statement}
