@@ -16,7 +16,8 @@ use Rattle.decomposition.specs.declared.fronts.Front.{Front}
 use Rattle.decomposition.specs.declared.Parts.{Parts}
 use Rattle.decomposition.proofs.Leading.{lent-rest}
 use Rattle.decomposition.specs.Strips.{leastRoot, firstFront, Stage, labelRow, leftOf, firstTaken, taken, stripRow, stripRows}
-use Rattle.decomposition.specs.Parts.{filled, labelLimit, stageOf, Held, FirstLeft, strippedOf, wholeStage, ofStage, behindFront, decomposedOf}
+use Rattle.decomposition.specs.Parts.{filled, labelLimit, wholeStage, ofStage, behindFront, decomposedOf}
+use Rattle.decomposition.specs.Places.{stageOf, Held, FirstLeft, strippedOf}
 
 -- Labels in an array whose unused places are 0.
 

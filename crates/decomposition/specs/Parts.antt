@@ -1,20 +1,16 @@
 -- A word in parts: a prefix label, a root, suffix labels (document 01, "Decompose"), and the parts that decompose finds. The root is
 -- a place in the word, a label is a row of its table. Assumes nothing.
-use Prim.Native.Nat.{ℕ, zero, suc, _+_, _≤_}
-use mathlib.Core.Path.{_≡_}
+use Prim.Native.Nat.{ℕ, zero, suc, _+_}
 use mathlib.Core.List.{List, [], _∷_}
-use lib.ListN.{length, take, drop}
+use lib.ListN.{length, drop}
 use Rattle.tables.specs.Rows.{prefixForms, suffixes}
 use Rattle.sheet.specs.Replies.{Ask}
 use Rattle.ranking.specs.Parts.{part}
 use Rattle.origin.specs.Decisions.{decisionOf}
 use Rattle.decomposition.specs.declared.fronts.Front.{Front}
-use Rattle.decomposition.specs.declared.suffixes.Left.{Left}
-use Rattle.decomposition.specs.declared.suffixes.Left.the-variants.{Nothing, Whole}
-use Rattle.decomposition.specs.declared.suffixes.Stripped.{Stripped}
 use Rattle.decomposition.specs.declared.Parts.{Parts}
 use Rattle.decomposition.specs.declared.Morpheme.{Morpheme}
-use Rattle.decomposition.specs.Strips.{Stage, leftFront, stripRows, leastRoot, firstFront}
+use Rattle.decomposition.specs.Strips.{Stage, stripRows, leastRoot, firstFront}
 
 -- exactly n numbers: those of xs, then zeros
 abbrev pub filled : ℕ → List ℕ → List ℕ
@@ -26,32 +22,9 @@ filled (suc n) (x ∷ xs) = x ∷ filled n xs
 abbrev pub labelLimit : ℕ
 labelLimit = 24
 
--- the stage at which the code stands, on the way through a piece
-abbrev pub stageOf : List ℕ → Stripped → Stage
-stageOf whole s = record { piece = take (s .len) whole; labels = take (s .count) (s .labels) }
-
--- it lies inside the piece, has at most n labels, and the places not used are 0
-pub record Held (whole : List ℕ) (n : ℕ) (s : Stripped) : Type 0 where
-  pub inside : s .len ≤ length whole
-  pub few : s .count ≤ n
-  pub zeros : s .labels ≡ filled labelLimit (take (s .count) (s .labels))
-
--- the code's answer says the remainder taken, which lies inside the piece
-abbrev pub leftWithin : List ℕ → Left → Type 0
-leftWithin piece Nothing = Unit {0}
-leftWithin piece (Whole n) = n ≤ length piece
-
-pub record FirstLeft (piece : List ℕ) (l : Left) (rests : List (List ℕ)) : Type 0 where
-  pub says : leftFront piece l ≡ rests
-  pub within : leftWithin piece l
-
 -- a whole piece, with no label
 abbrev pub wholeStage : List ℕ → Stage
 wholeStage piece = record { piece = piece; labels = [] }
-
--- a stage as the code says it
-abbrev pub strippedOf : Stage → Stripped
-strippedOf s = record { len = length (s .piece); count = length (s .labels); labels = filled labelLimit (s .labels) }
 
 -- the parts of a word behind a front: a root, by its text, and the rows of its labels
 abbrev pub partsOf : Front → List ℕ → List ℕ → Parts

@@ -3,7 +3,7 @@
 use Prim.Native.Nat.{ℕ, suc}
 use mathlib.Core.Bool.{Bool, _&&_}
 use mathlib.Core.List.{List, [], _∷_, _++_}
-use lib.ListN.{length, take}
+use lib.ListN.{length}
 use lib.Dec.{eqb, leb}
 use Rattle.runs.specs.Runs.{pick}
 use Rattle.text.specs.Characters.{chars}
@@ -14,8 +14,6 @@ use Rattle.strips.specs.Prefix.{leaves, after}
 use Rattle.strips.specs.declared.prefix.Rest.{Rest}
 use Rattle.strips.specs.declared.prefix.Rest.the-variants as rests
 use Rattle.decomposition.specs.declared.fronts.Front.{Front}
-use Rattle.decomposition.specs.declared.suffixes.Left.{Left}
-use Rattle.decomposition.specs.declared.suffixes.Left.the-variants.{Nothing, Whole}
 
 -- known by w
 unfoldable pub isWord : Ask → List ℕ → Bool
@@ -89,8 +87,3 @@ wordRest ask w form = pick (leavesWord ask w form) (rests.From (length form)) re
 abbrev pub firstFront : Ask → List ℕ → ℕ → List (List ℕ) → Front
 firstFront ask w k [] = noFront
 firstFront ask w k (form ∷ forms) = pick (leavesWord ask w form) (frontAt k (length form)) (firstFront ask w (suc k) forms)
-
--- a remainder as the code says it, by its length
-abbrev pub leftFront : List ℕ → Left → List (List ℕ)
-leftFront piece Nothing = []
-leftFront piece (Whole n) = take n piece ∷ []

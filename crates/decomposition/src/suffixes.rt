@@ -13,7 +13,8 @@ ghost use Rattle.sheet.specs.Replies.{reply, Indexed};
 ghost use Rattle.tables.specs.Rows.{suffixes};
 ghost use Rattle.tables.specs.Tables.{Laid};
 ghost use Rattle.decomposition.specs.Strips.{isWord, labelRow, openRests, isTaken, leftOf, firstTaken, stripRow, stripRows};
-ghost use Rattle.decomposition.specs.Parts.{stageOf, Held, FirstLeft, wholeStage, strippedOf};
+ghost use Rattle.decomposition.specs.Parts.{wholeStage};
+ghost use Rattle.decomposition.specs.Places.{stageOf, Held, FirstLeft, strippedOf};
 
 // What is left of a piece: nothing that counts, or its first bytes.
 pub enum Left {

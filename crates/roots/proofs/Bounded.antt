@@ -25,8 +25,9 @@ use Rattle.decomposition.specs.Parts.{rootText, partsOf, decomposedOf}
 use Rattle.decomposition.specs.declared.Parts.{Parts}
 use Rattle.decomposition.specs.declared.fronts.Front.{Front}
 use Rattle.roots.specs.Rank.{aheadOf}
-use Rattle.roots.specs.Lists.{holdsIn, ranked, once, onceWithin, rootLimit}
-use Rattle.roots.specs.Candidates.{isKnown, candidateBy, keptBy, keptOf, keptAll, heldBy, heldOf, heldAll, partsAmong, underRow, underRows, bare, oneSuffix, underForm, underForms, offers, candidates}
+use Rattle.roots.specs.Lists.{holdsIn, ranked, once, rootLimit}
+use Rattle.roots.specs.Room.{onceWithin, heldBy, heldOf, heldAll}
+use Rattle.roots.specs.Candidates.{isKnown, candidateBy, keptBy, keptOf, keptAll, partsAmong, underRow, underRows, bare, oneSuffix, underForm, underForms, offers, candidates}
 use Rattle.roots.proofs.Offered.{held-append}
 use Rattle.roots.specs.declared.RootCandidate.{RootCandidate}
 

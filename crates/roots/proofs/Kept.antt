@@ -13,7 +13,8 @@ use Rattle.runs.specs.Runs.{pick}
 use Rattle.ranking.specs.Places.{putIn}
 use Rattle.decomposition.specs.declared.Parts.{Parts}
 use Rattle.roots.specs.Rank.{isEqual, keyOrder, aheadOf}
-use Rattle.roots.specs.Lists.{rowsOf, isSome, holdsIn, ranked, placeIn, onceWithin, rootLimit, noCandidate}
+use Rattle.roots.specs.Lists.{rowsOf, isSome, holdsIn, ranked, placeIn, rootLimit, noCandidate}
+use Rattle.roots.specs.Room.{onceWithin}
 use Rattle.roots.specs.declared.RootCandidate.{RootCandidate}
 use Rattle.roots.specs.declared.Roots.{Roots}
 

@@ -28,8 +28,8 @@ use Rattle.decomposition.specs.declared.Parts.{Parts}
 use Rattle.decomposition.specs.declared.fronts.Front.{Front}
 use Rattle.decomposition.proofs.Taken.{own-letters, open-say}
 use Rattle.decomposition.proofs.Leading.{rest-from, rest-nothing}
-use Rattle.roots.specs.Lists.{onceWithin}
-use Rattle.roots.specs.Candidates.{isKnown, scoreBy, candidateBy, heldOf, heldAll, partsAmong, underRow, underRows, bare, oneSuffix, underForm, underForms}
+use Rattle.roots.specs.Room.{onceWithin, heldOf, heldAll}
+use Rattle.roots.specs.Candidates.{isKnown, scoreBy, candidateBy, partsAmong, underRow, underRows, bare, oneSuffix, underForm, underForms}
 use Rattle.roots.specs.declared.RootCandidate.{RootCandidate}
 
 -- One root with its labels.

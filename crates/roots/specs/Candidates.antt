@@ -1,16 +1,14 @@
 -- Root candidates (document 01, "Root candidates"): what is offered, what is kept of it, and the record of each. It is said of
 -- replies, so that two sheets which reply alike are the same to it. Assumes nothing.
-use Prim.Native.Nat.{ℕ, suc, _+_, _*_, _≤_}
-use mathlib.Core.Path.{_≡_}
+use Prim.Native.Nat.{ℕ, suc, _+_, _*_}
 use mathlib.Core.Bool.{Bool, true, false}
 use mathlib.Core.List.{List, [], _∷_, _++_}
 use lib.ListN.{length, drop}
 use lib.Dec.{leb, ltb}
 use Rattle.runs.specs.Runs.{pick}
 use Rattle.text.specs.Characters.{chars}
-use Rattle.tables.specs.Rows.{prefixForms, prefixLabels, suffixes}
-use Rattle.tables.specs.Tables.{Laid}
-use Rattle.sheet.specs.Replies.{Ask, Indexed, lettersBy}
+use Rattle.tables.specs.Rows.{prefixForms, suffixes}
+use Rattle.sheet.specs.Replies.{Ask, lettersBy}
 use Rattle.sheet.specs.declared.letters.Letters.{Letters}
 use Rattle.strips.specs.Prefix.{leaves}
 use Rattle.origin.specs.Decisions.{decisionOf}
@@ -18,7 +16,7 @@ use Rattle.decomposition.specs.Strips.{labelRow, leastRoot, leftOf, noFront, fr
 use Rattle.decomposition.specs.Parts.{rootText, partsOf, decomposedOf}
 use Rattle.decomposition.specs.declared.Parts.{Parts}
 use Rattle.decomposition.specs.declared.fronts.Front.{Front}
-use Rattle.roots.specs.Lists.{once, onceWithin, rootLimit}
+use Rattle.roots.specs.Lists.{once}
 use Rattle.roots.specs.declared.RootCandidate.{RootCandidate}
 
 -- n where b holds, else nothing
@@ -55,17 +53,6 @@ keptOf ask w xs p = keptBy ask w p (lettersBy ask (rootText w p)) xs
 unfoldable pub keptAll : Ask → List ℕ → List RootCandidate → List Parts → List RootCandidate
 keptAll ask w xs [] = xs
 keptAll ask w xs (p ∷ ps) = keptAll ask w (keptOf ask w xs p) ps
-
--- the same in a list with room for n
-abbrev pub heldBy : ℕ → Ask → List ℕ → Parts → Letters → List RootCandidate → List RootCandidate
-heldBy n ask w p l xs = pick (isKnown l) (onceWithin n w (candidateBy ask w p l) xs) xs
-
-unfoldable pub heldOf : ℕ → Ask → List ℕ → List RootCandidate → Parts → List RootCandidate
-heldOf n ask w xs p = heldBy n ask w p (lettersBy ask (rootText w p)) xs
-
-unfoldable pub heldAll : ℕ → Ask → List ℕ → List RootCandidate → List Parts → List RootCandidate
-heldAll n ask w xs [] = xs
-heldAll n ask w xs (p ∷ ps) = heldAll n ask w (heldOf n ask w xs p) ps
 
 -- the remainders that have enough characters, with these labels
 abbrev pub partsAmong : ℕ → Front → List ℕ → List (List ℕ) → List Parts
@@ -104,13 +91,3 @@ offers ask w = bare w noFront ∷ decomposedOf ask w ∷ (oneSuffix ask w noFron
 -- the candidates of w in rank order
 unfoldable pub candidates : Ask → List ℕ → List RootCandidate
 candidates ask w = keptAll ask w [] (offers ask w)
-
--- what each step is lent: an accepted sheet with its line starts, a word of at most 192 bytes and the number of its characters, and
--- the tables of suffixes and of prefix labels
-pub record Lent (word sheet starts texts cuts labels labelCuts : List ℕ) (surface : ℕ) : Type 0 where
-  pub indexed : Indexed sheet starts
-  pub texts-laid : Laid suffixes texts cuts
-  pub labels-laid : Laid prefixLabels labels labelCuts
-  pub short : length word ≤ 192
-  pub counted : surface ≡ chars word
-  pub few : surface ≤ 192

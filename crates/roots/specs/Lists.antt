@@ -43,10 +43,6 @@ placeIn w r (x ∷ xs) = pick (aheadOf w r x) zero (suc (placeIn w r xs))
 unfoldable pub once : List ℕ → RootCandidate → List RootCandidate → List RootCandidate
 once w r xs = pick (holdsIn w (r .parts) xs) xs (ranked w r xs)
 
--- the same in a list with room for n
-unfoldable pub onceWithin : ℕ → List ℕ → RootCandidate → List RootCandidate → List RootCandidate
-onceWithin n w r xs = pick (holdsIn w (r .parts) xs) xs (pick (ltb (length xs) n) (ranked w r xs) xs)
-
 -- what stands past the end of a list of candidates
 abbrev pub noCandidate : RootCandidate
 noCandidate = record {

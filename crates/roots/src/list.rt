@@ -16,7 +16,8 @@ ghost use Rattle.tables.specs.Rows.{suffixes, prefixLabels};
 ghost use Rattle.tables.specs.Tables.{Laid};
 ghost use Rattle.ranking.specs.Places.{putIn};
 ghost use Rattle.roots.specs.Rank.{aheadOf};
-ghost use Rattle.roots.specs.Lists.{rowsOf, isSome, holdsIn, placeIn, onceWithin, rootLimit};
+ghost use Rattle.roots.specs.Lists.{rowsOf, isSome, holdsIn, placeIn, rootLimit};
+ghost use Rattle.roots.specs.Room.{onceWithin};
 
 // Whether candidate a comes before b.
 fn ahead(

@@ -28,7 +28,8 @@ ghost use Rattle.strips.specs.Suffix.{fronts};
 ghost use Rattle.strips.proofs.Remainders.{Inside};
 ghost use Rattle.decomposition.specs.Strips.{labelRow, leastRoot, noFront};
 ghost use Rattle.roots.specs.Lists.{rowsOf, rootLimit};
-ghost use Rattle.roots.specs.Candidates.{points, isKnown, scoreBy, heldOf, heldAll, partsAmong, oneSuffix, bare, underForms, Lent};
+ghost use Rattle.roots.specs.Candidates.{points, isKnown, scoreBy, partsAmong, oneSuffix, bare, underForms};
+ghost use Rattle.roots.specs.Room.{heldOf, heldAll, Lent};
 
 // n where b holds, else nothing.
 fn points_for(b: bool, n: u16) -> u16

@@ -6,7 +6,7 @@ use Rattle.text.specs.Characters.{chars}
 use Rattle.sheet.specs.Replies.{reply}
 use Rattle.decomposition.specs.Parts.{decomposedOf}
 use Rattle.decomposition.proofs.Few.{few-prefixes, few-suffixes}
-use Rattle.roots.specs.Candidates.{Lent}
+use Rattle.roots.specs.Room.{Lent}
 use Rattle.roots.proofs.Bounded.{collected-is, chars-most}
 use borrow.Author.Needs.{needs}
 use Rattle.roots.proofs.collected.Statement.{statement}

@@ -9,7 +9,8 @@ use Rattle.tables.proofs.Laid.{laid-asks, laid-row}
 use Rattle.tables.proofs.Facts.{suffix-count}
 use Rattle.sheet.specs.Replies.{reply}
 use Rattle.decomposition.specs.Strips.{stripRows}
-use Rattle.decomposition.specs.Parts.{filled, stageOf, Held, strippedOf, wholeStage}
+use Rattle.decomposition.specs.Parts.{filled, wholeStage}
+use Rattle.decomposition.specs.Places.{stageOf, Held, strippedOf}
 use Rattle.decomposition.proofs.Stages.{begun, rows-turn, rows-end, ended}
 use Rattle.decomposition.proofs.suffixes.strip_rows.Statement.{statement}
 use Rattle.decomposition.proofs.suffixes.strip_rows.Tie as tie

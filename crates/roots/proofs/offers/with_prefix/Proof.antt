@@ -12,7 +12,8 @@ use Rattle.tables.proofs.Facts.{prefix-form-count}
 use Rattle.sheet.specs.Replies.{reply}
 use Rattle.strips.proofs.Remainders.{rest-inside}
 use Rattle.roots.specs.Lists.{rowsOf}
-use Rattle.roots.specs.Candidates.{heldAll, underForms}
+use Rattle.roots.specs.Candidates.{underForms}
+use Rattle.roots.specs.Room.{heldAll}
 use Rattle.roots.specs.declared.Roots.{Roots}
 use Rattle.roots.proofs.Offered.{forms-some, forms-none, forms-end}
 use Rattle.roots.proofs.offers.with_prefix.Statement.{statement}

@@ -14,7 +14,8 @@ use Rattle.decomposition.specs.Strips.{labelRow, leastRoot, openRests}
 use Rattle.decomposition.proofs.Taken.{open-inside}
 use Rattle.decomposition.proofs.Leading.{lent-rest}
 use Rattle.roots.specs.Lists.{rowsOf}
-use Rattle.roots.specs.Candidates.{heldAll, underRows, oneSuffix}
+use Rattle.roots.specs.Candidates.{underRows, oneSuffix}
+use Rattle.roots.specs.Room.{heldAll}
 use Rattle.roots.proofs.Offered.{rests-none, under-turn, under-end}
 use Rattle.roots.proofs.offers.with_suffix.Statement.{statement}
 use Rattle.roots.proofs.offers.with_suffix.Tie as tie
