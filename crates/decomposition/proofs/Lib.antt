@@ -5,3 +5,4 @@ pub mod Short
 pub mod Few
 pub mod Worked
 pub mod Reached
+pub mod Meant

@@ -7,3 +7,4 @@ pub mod Firsts
 pub mod Worked
 pub mod Reached
 pub mod Total
+pub mod Meant
