@@ -187,3 +187,7 @@ written-small text out r e h = subst FewBytes (sym e) (by (leb (length text) (le
     by : (b : Bool) → FewBytes (pick b (Bytes (length text)) TooShort)
     by true = h
     by false = tt
+
+-- what is said of word and sheet, i, turned out to be the refusal r
+pub inputs-refused : (w s : List ℕ) (i : Inputs) (r : Refusal) → i ≡ inputsOf w s → i ≡ inputs.Refused r → Placed r
+inputs-refused w s i r e f = refused-placed w s r (sym e ∙ f)

@@ -31,6 +31,8 @@ ghost use Rattle.analysis.specs.Answers.{saidOf, rowsGiven, hasOf};
 ghost use Rattle.listing.specs.Texts.{listingText};
 ghost use Rattle.exports.specs.Codes.{sheetCode, refusalCode, formCode, progressiveCode, supportedCode, hasCode, FewBytes, writtenCode, readingsCode, readingsLeft, originNumber, sourceNumber, originCode, confidenceOf};
 
+pub mod parts;
+
 // 0 for a word that is accepted, else document 01's number: 1, 2 or 3.
 #[no_mangle]
 pub extern "C" fn yunthirel_check_word(word: &[u8]) -> u64
@@ -60,7 +62,7 @@ pub extern "C" fn yunthirel_check_sheet(sheet: &[u8]) -> u64
 }
 
 // A refusal as a number: document 01's, 1 to 6, with 16 times the first byte of the faulty line for 5 and 6.
-fn refusal_code(refusal: Refusal) -> u64
+pub(crate) fn refusal_code(refusal: Refusal) -> u64
     requires { ⌜ Placed refusal ⌝ }
     ensures { λ r. ⌜ r ≡ refusalCode refusal ⌝ }
 {

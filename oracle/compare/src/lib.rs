@@ -52,6 +52,16 @@ pub const QUESTIONS: &[Question] = &[
         oracle: |case| oracle_line(case, "origin "),
         port: |case| origin(port::origin(&case.word, &case.sheet), port::confidence(&case.word, &case.sheet)),
     },
+    Question {
+        name: "decomposition",
+        oracle: |case| oracle_line(case, "decomposition "),
+        port: decomposition,
+    },
+    Question {
+        name: "candidates",
+        oracle: |case| oracle_lines(case, "candidates ", "known "),
+        port: candidates,
+    },
 ];
 
 /// 0 for accepted; else the number, with 16 times the line's first byte where there is one.
@@ -65,6 +75,18 @@ fn oracle_line(case: &Case, name: &str) -> String {
     let answer = String::from_utf8(answers::answer(&case.word, &case.sheet)).expect("an accepted word is UTF-8");
     let line = answer.lines().find(|line| line.starts_with(name));
     line.unwrap_or(answer.trim_end()).to_string()
+}
+
+/// The oracle's lines from that of the first name to that of the last, or its refusal.
+fn oracle_lines(case: &Case, first: &str, last: &str) -> String {
+    let answer = String::from_utf8(answers::answer(&case.word, &case.sheet)).expect("an accepted word is UTF-8");
+    let lines: Vec<&str> = answer.lines().collect();
+    let from = lines.iter().position(|line| line.starts_with(first));
+    let to = lines.iter().position(|line| line.starts_with(last));
+    match (from, to) {
+        (Some(from), Some(to)) => lines[from..=to].join("\n"),
+        _ => answer.trim_end().to_string(),
+    }
 }
 
 /// The refusal in the lowest four bits, as the oracle writes it: 5 and 6 always come with a place.
@@ -166,4 +188,85 @@ fn origin(code: u64, confidence: f32) -> String {
         return format!("no answer: {code:#x}");
     }
     format!("origin {origin} {source} {bits:08X}")
+}
+
+/// What the port stores of parts of a word, and a byte that it must leave.
+const STORED: usize = 33;
+
+/// The root, read where the port says that it stands, and the labels, read in the source's tables.
+struct Parts {
+    root: String,
+    labels: String,
+    origin: char,
+}
+
+fn parts(case: &Case, stored: &[u8]) -> Option<Parts> {
+    let (start, end) = (usize::from(stored[0]), usize::from(stored[1]));
+    let root = case.word.get(start..end).map(text)?;
+    let prefixes = match stored[3] {
+        0 => " 0".to_string(),
+        1 => format!(" 1 {}", shabda::tables::PREFIX_FORMS.get(usize::from(stored[2]))?.0),
+        _ => return None,
+    };
+    let count = usize::from(stored[4]);
+    let rows = stored[9..STORED].get(..count)?;
+    let mut suffixes = format!(" {count}");
+    for &row in rows {
+        suffixes.push(' ');
+        suffixes.push_str(shabda::tables::SUFFIXES.get(usize::from(row))?);
+    }
+    if stored[9 + count..STORED].iter().any(|&row| row != 0) {
+        return None;
+    }
+    let origin = *['t', 'b', 'd', 'a'].get(usize::from(stored[5]))?;
+    Some(Parts { root, labels: format!("{prefixes}{suffixes}"), origin })
+}
+
+/// A buffer with a byte more than is stored, all of them a byte that the port must overwrite or leave.
+fn buffer() -> [u8; STORED + 1] {
+    [0xAA; STORED + 1]
+}
+
+/// The port's decomposition, written as the oracle does.
+fn decomposition(case: &Case) -> String {
+    let mut stored = buffer();
+    let code = port::decompose(&case.word, &case.sheet, &mut stored);
+    if code != 0 {
+        return if stored == buffer() { refusal(code) } else { format!("{} with {stored:?}", refusal(code)) };
+    }
+    let Some(parts) = parts(case, &stored).filter(|_| stored[STORED] == 0xAA && stored[6..9] == [0; 3]) else {
+        return format!("no decomposition: {stored:?}");
+    };
+    format!("decomposition {} {}{}", parts.root, parts.origin, parts.labels)
+}
+
+/// The port's candidates, one call each, written as the oracle does.
+fn candidates(case: &Case) -> String {
+    let mut none = buffer();
+    let code = port::root(&case.word, &case.sheet, usize::MAX, &mut none);
+    if none != buffer() {
+        return format!("stored without a candidate: {none:?}");
+    }
+    if code % 16 != 0 {
+        return refusal(code);
+    }
+    let count = code / 16;
+    let mut lines = vec![format!("candidates {count}")];
+    for k in 0..count as usize {
+        let mut stored = buffer();
+        let again = port::root(&case.word, &case.sheet, k, &mut stored);
+        let known = match stored[6] {
+            1 => "w",
+            2 => "h",
+            3 => "wh",
+            _ => "none",
+        };
+        let score = u16::from_le_bytes([stored[7], stored[8]]);
+        let Some(parts) = parts(case, &stored).filter(|_| again == code && stored[STORED] == 0xAA) else {
+            return format!("no candidate {k}: {again} {stored:?}");
+        };
+        lines.push(format!("candidate {} {known} {} {score}{}", parts.root, parts.origin, parts.labels));
+    }
+    lines.push(format!("known {}", if count == 0 { "no" } else { "yes" }));
+    lines.join("\n")
 }

@@ -33,6 +33,25 @@ mod foreign {
         pub fn yunthirel_origin(word: *const u8, word_len: usize, sheet: *const u8, sheet_len: usize) -> u64;
         /// The confidence of the origin; 0.0 for a refusal.
         pub fn yunthirel_confidence(word: *const u8, word_len: usize, sheet: *const u8, sheet_len: usize) -> f32;
+        /// The refusal as above; 8 for an `out` of less than 33 bytes; else 0, with the decomposition in `out`.
+        pub fn yunthirel_decompose(
+            word: *const u8,
+            word_len: usize,
+            sheet: *const u8,
+            sheet_len: usize,
+            out: *mut u8,
+            out_len: usize,
+        ) -> u64;
+        /// The same; else 16 times the number of root candidates, with candidate `k` in `out`.
+        pub fn yunthirel_root(
+            word: *const u8,
+            word_len: usize,
+            sheet: *const u8,
+            sheet_len: usize,
+            k: usize,
+            out: *mut u8,
+            out_len: usize,
+        ) -> u64;
     }
 }
 
@@ -83,4 +102,35 @@ pub fn origin(word: &[u8], sheet: &[u8]) -> u64 {
 pub fn confidence(word: &[u8], sheet: &[u8]) -> f32 {
     // SAFETY: as above.
     unsafe { foreign::yunthirel_confidence(word.as_ptr(), word.len(), sheet.as_ptr(), sheet.len()) }
+}
+
+/// Hands back the code, and what then stands in `out`.
+pub fn decompose(word: &[u8], sheet: &[u8], out: &mut [u8]) -> u64 {
+    // SAFETY: as above; `out` is lent for the call and nothing else refers to it.
+    unsafe {
+        foreign::yunthirel_decompose(
+            word.as_ptr(),
+            word.len(),
+            sheet.as_ptr(),
+            sheet.len(),
+            out.as_mut_ptr(),
+            out.len(),
+        )
+    }
+}
+
+/// The same for candidate `k`.
+pub fn root(word: &[u8], sheet: &[u8], k: usize, out: &mut [u8]) -> u64 {
+    // SAFETY: as above.
+    unsafe {
+        foreign::yunthirel_root(
+            word.as_ptr(),
+            word.len(),
+            sheet.as_ptr(),
+            sheet.len(),
+            k,
+            out.as_mut_ptr(),
+            out.len(),
+        )
+    }
 }

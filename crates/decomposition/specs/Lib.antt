@@ -1,0 +1,4 @@
+pub mod Strips
+pub mod Parts
+pub mod Places
+pub mod Answers

@@ -1,0 +1,10 @@
+pub mod Labels
+pub mod Alternatives
+pub mod Kept
+pub mod Offered
+pub mod Bounded
+pub mod Firsts
+pub mod Worked
+pub mod Reached
+pub mod Total
+pub mod Meant

@@ -1,0 +1,5 @@
+pub mod Rank
+pub mod Lists
+pub mod Candidates
+pub mod Room
+pub mod Answers
