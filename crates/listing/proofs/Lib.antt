@@ -4,4 +4,5 @@ pub mod Labels
 pub mod Parted
 pub mod Worked
 pub mod Room
+pub mod Told
 pub mod Answered

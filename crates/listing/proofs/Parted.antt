@@ -9,7 +9,6 @@ use lib.ListN.{length, take, drop, getD, length-map, List·getD-map, drop-of-len
 use lib.Seq.{drop-cons, getD-take, length-take-le, take-all}
 use lib.Dec.{ltb}
 use borrow.Author.Tests.{ltb-true, ltb-false}
-use Rattle.ranking.specs.Parts.{part}
 use Rattle.listing.specs.Placed.{Wrote}
 use Rattle.listing.specs.Texts.{gap, parted, partedFrom}
 use Rattle.listing.proofs.Puts.{put-both, put-as, Upto, upto-more, upto-all}
@@ -54,7 +53,3 @@ module _ {A : Type 0} where
         let z : length (map f (take n xs)) ≤ i = omega arith in
         let t : take n xs ≡ take k xs = ap (λ (m : ℕ). take m xs) e ∙ sym (take-least k (length xs) xs refl) in
         put-as (ap (λ (ys : List A). parted (map f ys)) t) (upto-all u (ap (partedFrom i) (drop-of-length-le (map f (take n xs)) z)))
-
--- the same part, its ends said otherwise
-pub same-part : (w : List ℕ) {a b from to : ℕ} → a ≡ from → b ≡ to → part w a b ≡ part w from to
-same-part w p q = cc

@@ -4,8 +4,7 @@ use mathlib.Core.List.{List, [], _∷_, _++_, map}
 use lib.ListN.{length, take, getD}
 use Rattle.tables.specs.Rows.{prefixLabels}
 use Rattle.tables.specs.Tables.{affixes}
-use Rattle.ranking.specs.Parts.{part}
-use Rattle.ranking.specs.Rank.{rootText}
+use Rattle.ranking.specs.Rank.{stemText, rootText}
 use Rattle.ranking.specs.declared.AffixKind.{AffixKind}
 use Rattle.ranking.specs.declared.AffixKind.the-variants.{Particle, CaseMarker, PluralMarker, Postposition, ComparisonMarker}
 use Rattle.ranking.specs.declared.Segment.{Segment}
@@ -59,7 +58,7 @@ segmentTexts r = map segmentText (take (r .«suffix_count») (r .segments))
 unfoldable pub rowText : List ℕ → Reading → List ℕ
 rowText w r =
     (0x28 ∷ 0x72 ∷ 0x20 ∷ [])  -- (r
-    ++ (part w 0 (r .stem)
+    ++ (stemText w r
     ++ ((0x20 ∷ [])
     ++ (rootText w r
     ++ ((0x20 ∷ 0x28 ∷ [])  -- (

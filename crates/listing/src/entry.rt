@@ -14,7 +14,7 @@ ghost use Rattle.bytes.specs.Bytes.{indexOf};
 ghost use Rattle.sheet.specs.Inputs.{numbersOf};
 ghost use Rattle.listing.specs.Placed.{Answer};
 ghost use Rattle.listing.specs.Texts.{refusedNumbers, listingRoom};
-ghost use Rattle.listing.specs.Printed.{readingsText, printed};
+ghost use Rattle.listing.specs.Printed.{outcomeOf, leftOf, readingsText, printed};
 
 // A refused word or sheet, by its numbers.
 fn refused_of(refusal: Refusal) -> Refused
@@ -30,18 +30,46 @@ fn refused_of(refusal: Refusal) -> Refused
     }
 }
 
-// Writes the readings of the word at the front of `out`, or the line of the refusal. Too short a buffer is left as it was; 35,466
-// bytes are always enough.
-pub fn write_readings(word: &[u8], sheet: &[u8], out: &mut [u8]) -> Written
-    ensures { λ r. ⌜ Answer (readingsText (now (word .entry)) (now (sheet .entry))) (now (out .entry)) (now (out .exit)) r × (length (readingsText (now (word .entry)) (now (sheet .entry))) ≤ listingRoom) ⌝ }
+// What `write_readings` gives: how many bytes the text of the list has, or why none is written. `outcomeNumbers` gives document 01's
+// number of each.
+pub enum Outcome {
+    Bytes(usize),
+    Refused(Refusal),
+    TooMany,
+    TooShort,
+}
+
+// Writes the list of the word's readings at the front of `out`. A refused word or sheet, too many readings and too short a buffer
+// leave it as it was. 35,466 bytes are always enough.
+pub fn write_readings(word: &[u8], sheet: &[u8], out: &mut [u8]) -> Outcome
+    ensures { λ r. ⌜ (r ≡ outcomeOf (now (word .entry)) (now (sheet .entry)) (now (out .entry))) × (now (out .exit) ≡ leftOf (now (word .entry)) (now (sheet .entry)) (now (out .entry))) × (length (readingsText (now (word .entry)) (now (sheet .entry))) ≤ listingRoom) ⌝ }
 {
     let analysis = analyze_affixes(word, sheet);
     let said = analysis.said;
     let list = analysis.list;
     match said {
-        Said::Listed => write_listing(word, list, out),
-        Said::Refused(refusal) => write_refused(refused_of(refusal), out),
-        Said::TooMany => write_refused(Refused::Number(7), out),
+        Said::Refused(refusal) => Outcome::Refused(refusal),
+        Said::TooMany => Outcome::TooMany,
+        Said::Listed => {
+            let written = write_listing(word, list, out);
+            match written {
+                Written::Bytes(n) => Outcome::Bytes(n),
+                Written::TooShort => Outcome::TooShort,
+            }
+        }
+    }
+}
+
+// Writes what is printed for a word and a sheet: the list, or the line of the refusal. Too short a buffer is left as it was.
+pub fn print_readings(word: &[u8], sheet: &[u8], out: &mut [u8]) -> Written
+    ensures { λ r. ⌜ Answer (readingsText (now (word .entry)) (now (sheet .entry))) (now (out .entry)) (now (out .exit)) r × (length (readingsText (now (word .entry)) (now (sheet .entry))) ≤ listingRoom) ⌝ }
+{
+    let outcome = write_readings(word, sheet, out);
+    match outcome {
+        Outcome::Bytes(n) => Written::Bytes(n),
+        Outcome::TooShort => Written::TooShort,
+        Outcome::Refused(refusal) => write_refused(refused_of(refusal), out),
+        Outcome::TooMany => write_refused(Refused::Number(7), out),
     }
 }
 
@@ -58,12 +86,12 @@ fn after<'i>(input: &'i [u8], end: usize) -> &'i [u8]
 }
 
 // Writes what the program prints for its input: the word up to the first 0A, then the sheet.
-pub fn write_answer(input: &[u8], out: &mut [u8]) -> Written
+pub fn print_answer(input: &[u8], out: &mut [u8]) -> Written
     ensures { λ r. ⌜ Answer (printed (now (input .entry))) (now (out .entry)) (now (out .exit)) r × (length (printed (now (input .entry))) ≤ listingRoom) ⌝ }
 {
     if 65536 < input.len() {
         return write_refused(Refused::Number(4), out);
     }
     let end = bytes::scan::find(input, 0, input.len(), b'\n');
-    write_readings(&input[..end], after(input, end), out)
+    print_readings(&input[..end], after(input, end), out)
 }

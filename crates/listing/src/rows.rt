@@ -7,7 +7,8 @@ use ranking::AffixKind;
 use ranking::Listing;
 use ranking::Reading;
 use ranking::Segment;
-use ranking::part_of;
+use ranking::root_of;
+use ranking::stem_of;
 ghost use mathlib.Core.Path.{_≡_};
 ghost use mathlib.Core.List.{[], _∷_};
 ghost use Prim.Native.Nat.{_*_, _≤_, min};
@@ -134,12 +135,10 @@ fn put_row(
     requires { ⌜ Laid prefixLabels (now labels) (now starts) × Laid affixes (now texts) (now cuts) ⌝ }
     ensures { λ r. ⌜ Wrote (now (out .entry)) (now (out .exit)) at r (rowText (now (word .entry)) row) × (length (now (word .entry)) ≤ wordLimit → length (rowText (now (word .entry)) row) ≤ rowRoom) ⌝ }
 {
-    let root = wide16(row.root);
-    let stem = wide16(row.stem);
     let a = put(out, at, b"(r ");
-    let b = put(out, a, part_of(word, 0, stem));
+    let b = put(out, a, stem_of(word, row));
     let c = put(out, b, b" ");
-    let d = put(out, c, part_of(word, root, stem));
+    let d = put(out, c, root_of(word, row));
     let e = put(out, d, b" (");
     let f = put_prefixes(out, e, labels, starts, row);
     let g = put(out, f, b") (");

@@ -1,7 +1,7 @@
 // The same texts in a buffer of 65,536 bytes, which is always long enough: the length alone is given.
 use crate::Written;
-use crate::entry::write_answer;
-use crate::entry::write_readings;
+use crate::entry::print_answer;
+use crate::entry::print_readings;
 ghost use mathlib.Core.Path.{_≡_};
 ghost use Rattle.listing.specs.Placed.{Whole};
 ghost use Rattle.listing.specs.Printed.{readingsText, printed};
@@ -10,7 +10,7 @@ ghost use Rattle.listing.specs.Printed.{readingsText, printed};
 pub fn readings_of(word: &[u8], sheet: &[u8], out: &mut [u8; 65536]) -> usize
     ensures { λ r. ⌜ Whole (readingsText (now (word .entry)) (now (sheet .entry))) (now (out .entry)) (now (out .exit)) r ⌝ }
 {
-    let written = write_readings(word, sheet, out);
+    let written = print_readings(word, sheet, out);
     match written {
         Written::Bytes(n) => n,
         Written::TooShort => 0,
@@ -21,7 +21,7 @@ pub fn readings_of(word: &[u8], sheet: &[u8], out: &mut [u8; 65536]) -> usize
 pub fn answer_of(input: &[u8], out: &mut [u8; 65536]) -> usize
     ensures { λ r. ⌜ Whole (printed (now (input .entry))) (now (out .entry)) (now (out .exit)) r ⌝ }
 {
-    let written = write_answer(input, out);
+    let written = print_answer(input, out);
     match written {
         Written::Bytes(size) => size,
         Written::TooShort => 0,

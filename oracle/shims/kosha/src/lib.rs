@@ -19,6 +19,25 @@ pub fn put_in_force(sheet: Sheet) -> Sheet {
     IN_FORCE.with(|slot| slot.replace(sheet))
 }
 
+/// The questions that `work` asks, each counted once. Counted in debug builds alone, so that nothing is timed with it.
+#[cfg(debug_assertions)]
+pub fn questions(work: impl FnOnce()) -> usize {
+    ASKED.with(|asked| asked.borrow_mut().clear());
+    work();
+    ASKED.with(|asked| asked.borrow().len())
+}
+
+#[cfg(debug_assertions)]
+thread_local! {
+    static ASKED: RefCell<std::collections::BTreeSet<(char, String)>> = RefCell::default();
+}
+
+/// Notes a question: the letter of the line that would answer it, and the name.
+fn note(_letter: char, _name: &str) {
+    #[cfg(debug_assertions)]
+    ASKED.with(|asked| asked.borrow_mut().insert((_letter, _name.to_string())));
+}
+
 fn ask<R>(question: impl FnOnce(&Sheet) -> R) -> R {
     IN_FORCE.with(|slot| question(&slot.borrow()))
 }
@@ -35,11 +54,13 @@ pub fn kosha() -> &'static Kosha {
 impl Kosha {
     /// Whether the word's line has w.
     pub fn contains(&self, word: &str) -> bool {
+        note('w', word);
         ask(|sheet| sheet.letters(word).is_some_and(|letters| letters.has('w')))
     }
 
     /// The word's entry, if its line has h.
     pub fn lookup(&self, word: &str) -> Option<WordEntry> {
+        note('w', word);
         let letters = ask(|sheet| sheet.letters(word)).filter(|letters| letters.has('h'))?;
         Some(WordEntry {
             pos: Pos { letters, note: letters.has('e').then(|| ask(|sheet| sheet.place(word))).flatten() },
@@ -94,10 +115,12 @@ pub mod part_of_speech {
 
 /// The link line of `form`, as the source's inventory row of form and infinitive.
 pub fn link_line(form: &str) -> Option<(String, String)> {
+    note('l', form);
     ask(|sheet| sheet.infinitive(form).map(|lemma| (form.to_string(), lemma.to_string())))
 }
 
 /// The kind line of `suffix`.
 pub fn kind_line(suffix: &str) -> Option<KindLine> {
+    note('k', suffix);
     ask(|sheet| sheet.kind(suffix))
 }

@@ -1,13 +1,11 @@
 -- `rows::put_row` meets its contract: eleven texts, one after the other. Assumes nothing.
-use mathlib.Core.Path.{_≡_, refl, ap, _∙_}
+use mathlib.Core.Path.{_≡_, refl, ap}
 use native.Mathlib.Omega.{arith}
 use Prim.Native.Nat.{_<_}
 use lib.ListN.{length, length-map}
-use Rattle.ranking.specs.Parts.{part}
 use Rattle.listing.specs.Decimal.{decimal}
 use Rattle.listing.specs.Texts.{rowText}
 use Rattle.listing.proofs.Puts.{put-both, put-as}
-use Rattle.listing.proofs.Parted.{same-part}
 use Rattle.listing.proofs.Room.{reading-size}
 use Rattle.listing.proofs.rows.put_row.Statement.{statement}
 use Rattle.listing.proofs.rows.put_row.Tie as tie
@@ -17,13 +15,10 @@ abbrev first : tie.After-put5 → tie.After-put
 first c = c .before .before .before .before .before .before .before .before .before .before .before .before .before .before .before .before .before .before .before .before
 
 abbrev begun : tie.After-put → tie.Start
-begun c = c .before .before .before .before .before .before .before .before .before .before .before
+begun c = c .before .before .before .before .before .before .before .before .before
 
 wide16-requires : tie.Need-wide16-requires
 wide16-requires c κs = tt
-
-wide16-requires-2 : tie.Need-wide16-requires-2
-wide16-requires-2 c κs = tt
 
 slice-aggregate-put : tie.Need-slice-aggregate-put
 slice-aggregate-put c = refl
@@ -31,8 +26,8 @@ slice-aggregate-put c = refl
 put-requires : tie.Need-put-requires
 put-requires c κs = tt
 
-part-of-requires : tie.Need-part-of-requires
-part-of-requires c κs = tt
+stem-of-requires : tie.Need-stem-of-requires
+stem-of-requires c κs = tt
 
 put-requires-2 : tie.Need-put-requires-2
 put-requires-2 c κs = tt
@@ -43,8 +38,8 @@ slice-aggregate-put-2 c = refl
 put-requires-3 : tie.Need-put-requires-3
 put-requires-3 c κs = tt
 
-part-of-requires-2 : tie.Need-part-of-requires-2
-part-of-requires-2 c κs = tt
+root-of-requires : tie.Need-root-of-requires
+root-of-requires c κs = tt
 
 put-requires-4 : tie.Need-put-requires-4
 put-requires-4 c κs = tt
@@ -73,9 +68,6 @@ slice-aggregate-put-5 c = refl
 put-requires-7 : tie.Need-put-requires-7
 put-requires-7 c κs = tt
 
-wide16-requires-3 : tie.Need-wide16-requires-3
-wide16-requires-3 c κs = tt
-
 put-decimal-requires : tie.Need-put-decimal-requires
 put-decimal-requires c κs = tt
 
@@ -100,22 +92,20 @@ returns c =
     let p2 = p3 .before .before .before .before .before in
     let p1 = first p5 in
     let w = begun p1 .args .word .now in
-    let stem = p1 .before .before .before .wide162 .ensures in
-    let root = p1 .before .before .before .before .wide16 .ensures in
     let r = begun p1 .args .row in
     let g = begun p1 .good .1 .1 .1 .1 .1 .1 .1 .0 .1 .1 in
     let p : length (r .prefixes) ≡ 2 = simp length-map at (g .1 .1 .1 .0 .1 .0 .1) in
     let q : length (r .segments) ≡ 4 = simp length-map at (g .1 .1 .1 .1 .0 .1 .0 .1) in (
       put-both (p1 .put .ensures)
-          (put-both (put-as (p2 .before .part-of .ensures ∙ same-part w refl stem) (p2 .put2 .ensures))
+          (put-both (put-as (p2 .before .stem-of .ensures) (p2 .put2 .ensures))
           (put-both (p3 .put3 .ensures)
-          (put-both (put-as (p4 .before .part-of2 .ensures ∙ same-part w root stem) (p4 .put4 .ensures))
+          (put-both (put-as (p4 .before .root-of .ensures) (p4 .put4 .ensures))
           (put-both (p5 .put5 .ensures)
           (put-both (p6 .put-prefixes .ensures)
           (put-both (p7 .put6 .ensures)
           (put-both (p8 .put-segments .ensures)
           (put-both (p9 .put7 .ensures)
-          (put-both (put-as (ap decimal (p10 .before .wide163 .ensures)) (p10 .put-decimal .ensures))
+          (put-both (put-as (ap decimal (p10 .before .wide16 .ensures)) (p10 .put-decimal .ensures))
           (p11 .put8 .ensures)))))))))),
       λ h. reading-size w r h p q (omega arith),
     )
@@ -127,15 +117,13 @@ pub put-row-spec : {M : Type 1} → statement M
 put-row-spec =
     tie.close
     (tie.spec
-    wide16-requires
-    wide16-requires-2
     slice-aggregate-put
     put-requires
-    part-of-requires
+    stem-of-requires
     put-requires-2
     slice-aggregate-put-2
     put-requires-3
-    part-of-requires-2
+    root-of-requires
     put-requires-4
     slice-aggregate-put-3
     put-requires-5
@@ -145,7 +133,7 @@ put-row-spec =
     put-segments-requires
     slice-aggregate-put-5
     put-requires-7
-    wide16-requires-3
+    wide16-requires
     put-decimal-requires
     slice-aggregate-put-6
     put-requires-8

@@ -7,8 +7,8 @@ use Rattle.listing.proofs.Answered.{whole, never-short}
 use Rattle.listing.proofs.whole.answer_of.Statement.{statement}
 use Rattle.listing.proofs.whole.answer_of.Tie as tie
 
-write-answer-requires : tie.Need-write-answer-requires
-write-answer-requires c κs = tt
+print-answer-requires : tie.Need-print-answer-requires
+print-answer-requires c κs = tt
 
 enum-known-written : tie.Need-enum-known-written
 enum-known-written c = search needs
@@ -20,13 +20,13 @@ returns : tie.Need-returns
 returns c =
     let p = c .before .before .before in
     let a = p .before .before .before .args in
-    whole (printed (a .input .now)) (a .out .now) _ _ (omega arith) (p .write-answer .ensures .0) (p .write-answer .ensures .1) _ (c .before .written .given .1)
+    whole (printed (a .input .now)) (a .out .now) _ _ (omega arith) (p .print-answer .ensures .0) (p .print-answer .ensures .1) _ (c .before .written .given .1)
 
 returns-2 : tie.Need-returns-2
 returns-2 c =
     let p = c .before .before in
     let a = p .before .before .before .args in
-    absurd (never-short (printed (a .input .now)) (a .out .now) _ _ (omega arith) (p .write-answer .ensures .0) (p .write-answer .ensures .1) (c .enum-told .given .1))
+    absurd (never-short (printed (a .input .now)) (a .out .now) _ _ (omega arith) (p .print-answer .ensures .0) (p .print-answer .ensures .1) (c .enum-told .given .1))
 
 pub answer-of-spec : {M : Type 1} → statement M
-answer-of-spec = tie.close (tie.spec write-answer-requires enum-known-written enum-told returns returns-2)
+answer-of-spec = tie.close (tie.spec print-answer-requires enum-known-written enum-told returns returns-2)

@@ -7,8 +7,8 @@ use Rattle.listing.proofs.Answered.{whole, never-short}
 use Rattle.listing.proofs.whole.readings_of.Statement.{statement}
 use Rattle.listing.proofs.whole.readings_of.Tie as tie
 
-write-readings-requires : tie.Need-write-readings-requires
-write-readings-requires c κs = tt
+print-readings-requires : tie.Need-print-readings-requires
+print-readings-requires c κs = tt
 
 enum-known-written : tie.Need-enum-known-written
 enum-known-written c = search needs
@@ -20,13 +20,13 @@ returns : tie.Need-returns
 returns c =
     let p = c .before .before .before in
     let a = p .before .before .before .before .args in
-    whole (readingsText (a .word .now) (a .sheet .now)) (a .out .now) _ _ (omega arith) (p .write-readings .ensures .0) (p .write-readings .ensures .1) _ (c .before .written .given .1)
+    whole (readingsText (a .word .now) (a .sheet .now)) (a .out .now) _ _ (omega arith) (p .print-readings .ensures .0) (p .print-readings .ensures .1) _ (c .before .written .given .1)
 
 returns-2 : tie.Need-returns-2
 returns-2 c =
     let p = c .before .before in
     let a = p .before .before .before .before .args in
-    absurd (never-short (readingsText (a .word .now) (a .sheet .now)) (a .out .now) _ _ (omega arith) (p .write-readings .ensures .0) (p .write-readings .ensures .1) (c .enum-told .given .1))
+    absurd (never-short (readingsText (a .word .now) (a .sheet .now)) (a .out .now) _ _ (omega arith) (p .print-readings .ensures .0) (p .print-readings .ensures .1) (c .enum-told .given .1))
 
 pub readings-of-spec : {M : Type 1} → statement M
-readings-of-spec = tie.close (tie.spec write-readings-requires enum-known-written enum-told returns returns-2)
+readings-of-spec = tie.close (tie.spec print-readings-requires enum-known-written enum-told returns returns-2)
