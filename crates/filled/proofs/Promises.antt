@@ -1,5 +1,6 @@
--- What the entry promises, beyond its contract: the number that is given is the lowest that applies; with any number the slice is left as
--- it was; without one, the readings stand at its front and its old elements behind them; it is as long as before. Assumes nothing.
+-- What the entry promises, beyond its contract: the number that is given is the lowest that applies, that of the core call or 8; with any
+-- number the slice is left as it was; without one, the readings stand at its front and its old elements behind them; it is as long as
+-- before. Assumes nothing.
 use Prim.Native.Nat.{ℕ, suc, _-_, _≤_, _<_}
 use native.Mathlib.Omega.{arith}
 use mathlib.Core.Path.{_≡_, refl, sym, ap, subst, _∙_}
@@ -20,7 +21,7 @@ use Rattle.ranking.specs.Lists.{Rows, rows, over}
 use Rattle.ranking.specs.declared.Reading.{Reading}
 use Rattle.analysis.specs.declared.entry.Said.{Said}
 use Rattle.analysis.specs.declared.entry.Said.the-variants as said
-use Rattle.analysis.specs.Answers.{collected, listedRows, saidBy, rowsBy, saidOf, rowsGiven}
+use Rattle.analysis.specs.Answers.{collected, listedRows, saidBy, rowsBy, saidOf, rowsGiven, saidNumbers}
 use Rattle.filled.specs.declared.Filled.{Filled}
 use Rattle.filled.specs.declared.Filled.the-variants.{Wrote, Refused, TooMany, TooShort}
 use Rattle.filled.specs.Filled.{filledBy, filledOf, outputBy, outputOf, orElse, tooManyNumber, tooShortNumber, lowestOf, filledNumbers}
@@ -69,6 +70,16 @@ is-eight said.Listed n room true t e =
 is-eight said.Listed n room false t e = (refl, leb-false n room t)
 is-eight (said.Refused r) n room b t e = absurd (never-eight r e)
 is-eight said.TooMany n room b t e = let z : _≡_ {A = ℕ} 7 8 = ap first e in absurd (omega arith)
+
+-- where the core call gives no list, its number is handed on
+pub handed-on : (w s : List ℕ) (room : ℕ) → (saidOf w s ≡ said.Listed → ⊥) → filledNumbers (filledOf w s room) ≡ saidNumbers (saidOf w s)
+unfolding filledOf
+handed-on w s room h = by (saidOf w s) h
+  where
+    by : (x : Said) → (x ≡ said.Listed → ⊥) → filledNumbers (filledBy x (length (rowsGiven w s)) room) ≡ saidNumbers x
+    by said.Listed h = absurd (h refl)
+    by (said.Refused r) h = refl
+    by said.TooMany h = refl
 
 -- 8 is given exactly where the list is given and the slice is shorter
 pub eight-exactly : (w s : List ℕ) (room : ℕ) → (filledNumbers (filledOf w s room) ≡ 8 ∷ []) ↔ ((saidOf w s ≡ said.Listed) × (room < length (rowsGiven w s)))
