@@ -13,7 +13,7 @@ use sheet::inputs::Inputs;
 use sheet::inputs::Refusal;
 ghost use mathlib.Core.Path.{_≡_};
 ghost use mathlib.Core.List.{[], _∷_};
-ghost use lib.ListN.{take};
+ghost use lib.ListN.{length, take};
 ghost use lib.Dec.{ltb};
 ghost use Rattle.runs.specs.Runs.{pick};
 ghost use Rattle.text.specs.Word.{wordCheck};
@@ -50,12 +50,23 @@ pub enum Has {
     Given(bool),
 }
 
+// The same list with a count that is no larger than its room, as the walk leaves it.
+fn counted(list: Listing) -> Listing
+    ensures { λ r. ⌜ (rowsOf r ≡ rowsOf list) × (r .count ≡ length (rowsOf list)) ⌝ }
+{
+    let mut next = list;
+    if 64 < next.count {
+        next.count = 64;
+    }
+    next
+}
+
 // Nothing listed, with what is said of it.
 fn refused(said: Said) -> Analysis
-    ensures { λ r. ⌜ (r .said ≡ said) × (rowsOf (r .list) ≡ []) ⌝ }
+    ensures { λ r. ⌜ (r .said ≡ said) × (rowsOf (r .list) ≡ []) × (r .list .count ≡ 0) ⌝ }
 {
     let none = nothing();
-    let list = none.list;
+    let list = counted(none.list);
     Analysis { said, list }
 }
 
@@ -96,13 +107,14 @@ fn collect(word: &[u8], sheet: &[u8], starts: &[Start]) -> Found
 // What is given where word and sheet are accepted: the list, or that there are too many.
 fn listed(word: &[u8], sheet: &[u8], starts: &[Start]) -> Analysis
     requires { ⌜ (wordCheck (now word) ≡ Accepted) × Indexed (now sheet) (now starts) ⌝ }
-    ensures { λ r. ⌜ (r .said ≡ byRows (collected (now (word .entry)) (now (sheet .entry)))) × (rowsOf (r .list) ≡ listedRows (collected (now (word .entry)) (now (sheet .entry)))) ⌝ }
+    ensures { λ r. ⌜ (r .said ≡ byRows (collected (now (word .entry)) (now (sheet .entry)))) × (rowsOf (r .list) ≡ listedRows (collected (now (word .entry)) (now (sheet .entry))))
+        × (r .list .count ≡ length (listedRows (collected (now (word .entry)) (now (sheet .entry))))) ⌝ }
 {
     let found = collect(word, sheet, starts);
     if found.over {
         return refused(Said::TooMany);
     }
-    let list = found.list;
+    let list = counted(found.list);
     Analysis {
         said: Said::Listed,
         list,
@@ -112,7 +124,8 @@ fn listed(word: &[u8], sheet: &[u8], starts: &[Start]) -> Analysis
 // The core call: every reading of the word that the sheet supports, each once, in rank order; or why there is none: the lowest
 // number that applies.
 pub fn analyze_affixes(word: &[u8], sheet: &[u8]) -> Analysis
-    ensures { λ r. ⌜ (r .said ≡ saidOf (now (word .entry)) (now (sheet .entry))) × (rowsOf (r .list) ≡ rowsGiven (now (word .entry)) (now (sheet .entry))) ⌝ }
+    ensures { λ r. ⌜ (r .said ≡ saidOf (now (word .entry)) (now (sheet .entry))) × (rowsOf (r .list) ≡ rowsGiven (now (word .entry)) (now (sheet .entry)))
+        × (r .list .count ≡ length (rowsGiven (now (word .entry)) (now (sheet .entry)))) ⌝ }
 {
     let mut starts: [Start; 6554] = [0; 6554];
     let ready = prepare(word, sheet, &mut starts);

@@ -60,13 +60,13 @@ returns : tie.Need-returns
 returns c =
     let i = c .before .before in
     let k = i .before .before .before in
-    (c .refused .ensures .0 ∙ said-by k _ (i .inputs .given .1), c .refused .ensures .1 ∙ rows-by k _ (i .inputs .given .1))
+    (c .refused .ensures .0 ∙ said-by k _ (i .inputs .given .1), c .refused .ensures .1 ∙ rows-by k _ (i .inputs .given .1), c .refused .ensures .2 ∙ ap length (rows-by k _ (i .inputs .given .1)))
 
 returns-2 : tie.Need-returns-2
 returns-2 c =
     let e = c .before .before in
     let k = e .before .before .before in
-    (c .listed .ensures .0 ∙ said-by k _ (e .enum-told .given .1), c .listed .ensures .1 ∙ rows-by k _ (e .enum-told .given .1))
+    (c .listed .ensures .0 ∙ said-by k _ (e .enum-told .given .1), c .listed .ensures .1 ∙ rows-by k _ (e .enum-told .given .1), c .listed .ensures .2 ∙ ap length (rows-by k _ (e .enum-told .given .1)))
 
 pub analyze-affixes-spec : {M : Type 1} → statement M
 analyze-affixes-spec =

@@ -1,5 +1,6 @@
 -- `analysis::entry::listed` meets its contract: the list, or that there are too many. Assumes nothing.
-use mathlib.Core.Path.{_∙_}
+use mathlib.Core.Path.{ap, _∙_}
+use lib.ListN.{length}
 use Rattle.analysis.proofs.Accepted.{too-many, all-listed}
 use Rattle.analysis.proofs.entry.listed.Statement.{statement}
 use Rattle.analysis.proofs.entry.listed.Tie as tie
@@ -14,10 +15,16 @@ returns : tie.Need-returns
 returns c =
     let k = c .before .before in
     let p = too-many (k .collect .result) _ (k .collect .ensures) (c .before .if1 .taken) in
-    (c .refused .ensures .0 ∙ p .0, c .refused .ensures .1 ∙ p .1)
+    (c .refused .ensures .0 ∙ p .0, c .refused .ensures .1 ∙ p .1, c .refused .ensures .2 ∙ ap length (p .1))
 
 returns-2 : tie.Need-returns-2
-returns-2 c = let k = c .before .before in all-listed (k .collect .result) _ (k .collect .ensures) (c .before .if1 .left)
+returns-2 c =
+    let k = c .before .before in
+    let p = all-listed (k .collect .result) _ (k .collect .ensures) (c .before .if1 .left) in
+    (p .0, c .counted .ensures .0 ∙ p .1, c .counted .ensures .1 ∙ ap length (p .1))
+
+counted-requires : tie.Need-counted-requires
+counted-requires c κs = tt
 
 pub listed-spec : {M : Type 1} → statement M
-listed-spec = tie.close (tie.spec collect-requires refused-requires returns returns-2)
+listed-spec = tie.close (tie.spec collect-requires refused-requires returns counted-requires returns-2)
