@@ -52,16 +52,8 @@ pub const QUESTIONS: &[Question] = &[
         oracle: |case| oracle_line(case, "origin "),
         port: |case| origin(port::origin(&case.word, &case.sheet), port::confidence(&case.word, &case.sheet)),
     },
-    Question {
-        name: "decomposition",
-        oracle: |case| oracle_line(case, "decomposition "),
-        port: decomposition,
-    },
-    Question {
-        name: "candidates",
-        oracle: |case| oracle_lines(case, "candidates ", "known "),
-        port: candidates,
-    },
+    Question { name: "decomposition", oracle: |case| oracle_line(case, "decomposition "), port: decomposition },
+    Question { name: "candidates", oracle: |case| oracle_lines(case, "candidates ", "known "), port: candidates },
 ];
 
 /// 0 for accepted; else the number, with 16 times the line's first byte where there is one.

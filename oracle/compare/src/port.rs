@@ -123,14 +123,6 @@ pub fn decompose(word: &[u8], sheet: &[u8], out: &mut [u8]) -> u64 {
 pub fn root(word: &[u8], sheet: &[u8], k: usize, out: &mut [u8]) -> u64 {
     // SAFETY: as above.
     unsafe {
-        foreign::yunthirel_root(
-            word.as_ptr(),
-            word.len(),
-            sheet.as_ptr(),
-            sheet.len(),
-            k,
-            out.as_mut_ptr(),
-            out.len(),
-        )
+        foreign::yunthirel_root(word.as_ptr(), word.len(), sheet.as_ptr(), sheet.len(), k, out.as_mut_ptr(), out.len())
     }
 }

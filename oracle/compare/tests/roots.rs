@@ -83,8 +83,7 @@ fn a_pronoun_with_and_without_its_spelling() {
 
 #[test]
 fn two_candidates_ordered_by_h() {
-    let lines =
-        [("घरबार", "w"), ("घरबारको", "w"), ("घरबारकोता", "w"), ("घरबारकोतापन", "w"), ("उपघरबारकोता", "h")];
+    let lines = [("घरबार", "w"), ("घरबारको", "w"), ("घरबारकोता", "w"), ("घरबारकोतापन", "w"), ("उपघरबारकोता", "h")];
     let found = answer("candidates", "उपघरबारकोतापन", sheet(&lines));
     let rows: Vec<&str> = found.lines().collect();
     assert!(rows[1].starts_with("candidate उपघरबारकोता h "), "{found}");
