@@ -6,7 +6,7 @@ use Rattle.text.specs.Utf8.{within, utf8Char, opened, after, run, isUtf8}
 use Rattle.text.specs.Characters.{opens, chars}
 use Rattle.text.specs.Names.{forbidden, nameRun, holdsForbidden}
 use Rattle.text.specs.Word.{wordCheck}
-use Rattle.tables.specs.Rows.{prefixLabels, prefixForms, pluralMarkers, caseMarkers, particles}
+use Rattle.tables.specs.Rows.{prefixLabels, prefixForms, pluralMarkers, caseMarkers, particles, suffixes}
 use Rattle.tables.specs.Tables.{affixes}
 use Rattle.sheet.specs.Letters.{tagOf, lettersOf, wellKept, isLetters}
 use Rattle.sheet.specs.Forms.{entryOf, written, isName, isKind, isMeant, isForm}
@@ -14,7 +14,7 @@ use Rattle.sheet.specs.Lines.{judged, sheetCheck}
 use Rattle.sheet.specs.Inputs.{inputsOf}
 use Rattle.sheet.specs.Replies.{reply}
 use Rattle.lookup.specs.Search.{placeOf}
-use Rattle.strips.specs.Suffix.{sheds, isLong, plain, shared}
+use Rattle.strips.specs.Suffix.{sheds, isLong, plain, shared, remainders, keepsPronoun}
 use Rattle.strips.specs.Prefix.{leastAfter, leaves, prefixRemainder}
 use Rattle.progressive.specs.Progressive.{regular, lemmaOf, isShaped, progressiveOf}
 use Rattle.progressive.specs.Answers.{answerOf}
@@ -24,11 +24,14 @@ use Rattle.ranking.specs.Lists.{ranked, plus, plusAll}
 use Rattle.paths.specs.Support.{knownWith, isSupported, scoreOf}
 use Rattle.paths.specs.Walk.{rootWalk, overForms, secondWalk, stemWalk, rowsWalk, pieceWalk}
 use Rattle.analysis.specs.Answers.{saidOf, rowsGiven}
+use Rattle.decomposition.specs.Strips.{isWord, labelRow, leastRoot, isKept, leftOf, isTaken, stripRow, leavesWord}
+use Rattle.decomposition.specs.Parts.{behindFront, decomposedOf, morphemeOf}
+use Rattle.decomposition.specs.Answers.{morphemeAnswer}
 use Rattle.bytes.specs.Bytes.{indexAfter, indexOf}
 use Rattle.listing.specs.Decimal.{digitsIn, decimal}
 use Rattle.listing.specs.Texts.{segmentText, rowText, listingText}
 use Rattle.listing.specs.Printed.{readingsText, printed}
-use Rattle.outcomes.specs.Words.{ghar, gharle, le, nihshulk, shulk, nir, nis, amanav, manav, a, asaphal, saphal, khairaheko, nakhairaheko, khai, nakhai, khanu, rahanu, gariraheko, gari, garnu, garanu, listing}
+use Rattle.outcomes.specs.Words.{ghar, gharle, le, nihshulk, shulk, nir, nis, amanav, manav, a, asaphal, saphal, khairaheko, nakhairaheko, khai, nakhai, khanu, rahanu, gariraheko, gari, garnu, garanu, listing, gharkota, gharko, ta, ko}
 use Rattle.outcomes.specs.Outcomes.{Outcome, outcomeOf}
 use Rattle.outcomes.specs.Cases.{Case, cases}
 
@@ -39,5 +42,7 @@ unfolding within utf8Char opened after run isUtf8 opens chars forbidden nameRun 
     plusAll knownWith isSupported scoreOf rootWalk overForms secondWalk stemWalk rowsWalk pieceWalk saidOf rowsGiven
     ghar gharle le nihshulk shulk nir nis amanav manav a asaphal saphal khairaheko nakhairaheko khai nakhai khanu rahanu gariraheko gari garnu garanu
     listing indexAfter indexOf printed readingsText listingText rowText segmentText decimal digitsIn
+    gharkota gharko ta ko suffixes remainders keepsPronoun isWord labelRow leastRoot isKept leftOf isTaken stripRow leavesWord behindFront decomposedOf morphemeOf
+    morphemeAnswer
     cases
 worked = refl

@@ -5,8 +5,8 @@ use mathlib.Core.Bool.{true, false}
 use mathlib.Core.List.{List, [], _∷_, _++_}
 use Rattle.sheet.specs.Forms.{written}
 use Rattle.ranking.specs.declared.AffixKind.the-variants.{CaseMarker}
-use Rattle.outcomes.specs.Words.{ghar, gharle, le, nihshulk, shulk, nir, nis, amanav, manav, a, asaphal, saphal, khairaheko, nakhairaheko, khai, nakhai, khanu, rahanu, gariraheko, gari, garnu, garanu, listing}
-use Rattle.outcomes.specs.Outcomes.{Question, prints, readings, progressive, Suffix, Row, Outcome, text, list, form, noForm}
+use Rattle.outcomes.specs.Words.{ghar, gharle, le, nihshulk, shulk, nir, nis, amanav, manav, a, asaphal, saphal, khairaheko, nakhairaheko, khai, nakhai, khanu, rahanu, gariraheko, gari, garnu, garanu, listing, gharkota, gharko, ta, ko}
+use Rattle.outcomes.specs.Outcomes.{Question, prints, readings, progressive, decompose, Suffix, Row, Outcome, text, list, form, noForm, parts}
 
 -- a line of a sheet, with its 0A
 abbrev pub lineOf : ℕ → List ℕ → List ℕ → List ℕ
@@ -55,5 +55,6 @@ cases =
     case (progressive khairaheko (verb khanu ++ verb rahanu)) (form khai false khanu) ∷
     case (progressive nakhairaheko (verb khanu ++ verb rahanu)) (form nakhai true khanu) ∷
     case (progressive gariraheko (link gari garnu ++ verb garanu ++ verb rahanu)) noForm ∷
+    case (decompose gharkota (word ghar ++ word gharko)) (parts ghar [] (ta ∷ ko ∷ [])) ∷
     case (readings [] []) (list []) ∷
     []

@@ -4,7 +4,7 @@ use mathlib.Core.Bool.{Bool, true, false}
 use mathlib.Core.List.{List, [], _∷_, map}
 use lib.ListN.{take, getD}
 use Rattle.runs.specs.Runs.{pick}
-use Rattle.tables.specs.Rows.{prefixLabels}
+use Rattle.tables.specs.Rows.{prefixLabels, suffixes}
 use Rattle.tables.specs.Tables.{affixes}
 use Rattle.ranking.specs.Parts.{part}
 use Rattle.ranking.specs.Rank.{rootText}
@@ -18,13 +18,19 @@ use Rattle.progressive.specs.Answers.{answerOf, answerNumbers, lemmaPart}
 use Rattle.analysis.specs.declared.entry.Said.{Said}
 use Rattle.analysis.specs.declared.entry.Said.the-variants.{Listed, Refused, TooMany}
 use Rattle.analysis.specs.Answers.{saidOf, rowsGiven, saidNumbers}
+use Rattle.sheet.specs.Inputs.{numbersOf}
+use Rattle.sheet.specs.declared.inputs.Inputs.{Inputs}
+use Rattle.sheet.specs.declared.inputs.Inputs.the-variants as inputs
+use Rattle.decomposition.specs.declared.Parts.{Parts}
+use Rattle.decomposition.specs.Answers.{morphemeAnswer}
 use Rattle.listing.specs.Printed.{printed}
 
--- what is asked: what the program prints for an input; of a word and a sheet, its readings, or its progressive form
+-- what is asked: what the program prints for an input; of a word and a sheet, its readings, its progressive form, or its decomposition
 pub data Question : Type 0 where
   prints : List ℕ → Question
   readings : List ℕ → List ℕ → Question
   progressive : List ℕ → List ℕ → Question
+  decompose : List ℕ → List ℕ → Question
 
 -- a suffix: its label and its kind
 pub record Suffix : Type 0 where
@@ -40,12 +46,13 @@ pub record Row : Type 0 where
   pub score : ℕ
 
 -- an outcome: the text printed; the rows of the list; a progressive form, by its main form, whether it is negative, and its lemma; no progressive
--- form; or a refusal by its numbers
+-- form; a decomposition, by its root, prefix labels and suffix labels; or a refusal by its numbers
 pub data Outcome : Type 0 where
   text : List ℕ → Outcome
   list : List Row → Outcome
   form : List ℕ → Bool → List ℕ → Outcome
   noForm : Outcome
+  parts : List ℕ → List (List ℕ) → List (List ℕ) → Outcome
   refused : List ℕ → Outcome
 
 abbrev pub suffixOf : Segment → Suffix
@@ -75,8 +82,15 @@ abbrev pub formOf : List ℕ → List ℕ → Answer → Outcome
 formOf w s (answers.Refused r) = refused (answerNumbers (answers.Refused r))
 formOf w s (answers.Given p) = pick (p .found) (form (part w 0 (p .«main_end»)) (p .negative) (lemmaPart s (answers.Given p))) noForm
 
+-- what decompose gives of the word w
+abbrev pub partsOf : List ℕ → Inputs → Parts → Outcome
+partsOf w inputs.Accepted p =
+    parts (part w (p .start) (p .end)) (map labelOf (take (p .«prefix_count») (p .prefix ∷ []))) (map (λ (k : ℕ). getD suffixes k []) (take (p .«suffix_count») (p .suffixes)))
+partsOf w (inputs.Refused r) p = refused (numbersOf r)
+
 -- the outcome of a question
 abbrev pub outcomeOf : Question → Outcome
 outcomeOf (prints input) = text (printed input)
 outcomeOf (readings w s) = listOf w (saidOf w s) (rowsGiven w s)
 outcomeOf (progressive w s) = formOf w s (answerOf w s)
+outcomeOf (decompose w s) = partsOf w (morphemeAnswer w s .inputs) (morphemeAnswer w s .morpheme .parts)
