@@ -29,3 +29,20 @@ fn sizes_keep_their_limits() {
     assert!(files[0].1.len() + files[1].1.len() <= 420_000);
     assert!(files[2].1.len() + files[3].1.len() < 60_000);
 }
+
+/// The programs of the gate replay these lists: what they are fed and held to is what the oracle says.
+#[test]
+fn the_programs_replay_these_lists() {
+    let crates = Path::new(env!("CARGO_MANIFEST_DIR")).join("../../crates");
+    let read = |name: &str| std::fs::read(crates.join(name)).unwrap_or_else(|error| panic!("{name}: {error}"));
+    let (cases, printed) = (read("worked/stdin"), read("worked/stdout"));
+    let list = fixed::list();
+    let mut rest = blocks::read_cases(&cases[..]).expect("cases in blocks");
+    assert!(rest.len() >= list.len(), "fewer cases than the list has");
+    let mut expected = Vec::new();
+    for case in rest.drain(..) {
+        expected.extend(answers::listing(&case.word, &case.sheet));
+    }
+    assert!(printed == expected, "crates/worked/stdout is not what the oracle says for crates/worked/stdin");
+    assert!(cases.starts_with(&fixed::files().expect("bytes are written")[0].1), "crates/worked/stdin does not begin with the list");
+}
