@@ -16,7 +16,8 @@ fn own_runs(word: &str) -> Vec<u8> {
 
 #[test]
 fn heavy_words_ask_hundreds() {
-    for (word, least) in [("अपरिचितहरूलाई", 400), ("निःनिःघरकोकोकोको", 600), ("निःनिःघरहरूकोमालेक्यारे", 600)] {
+    for (word, least) in [("अपरिचितहरूलाई", 400), ("निःनिःघरकोकोकोको", 600), ("निःनिःघरहरूकोमालेक्यारे", 600)]
+    {
         let sheet = own_runs(word);
         let (_, forms) = acceptance::check(word.as_bytes(), &sheet).expect("a good word and sheet");
         let asked = answers::with_sheet(&forms, || {

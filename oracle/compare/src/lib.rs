@@ -42,11 +42,7 @@ pub const QUESTIONS: &[Question] = &[
         oracle: |case| text(&answers::has_analysis(&case.word, &case.sheet)).trim_end().to_string(),
         port: |case| has_analysis(port::has_analysis(&case.word, &case.sheet)),
     },
-    Question {
-        name: "readings",
-        oracle: |case| text(&answers::listing(&case.word, &case.sheet)),
-        port: readings,
-    },
+    Question { name: "readings", oracle: |case| text(&answers::listing(&case.word, &case.sheet)), port: readings },
     Question {
         name: "origin",
         oracle: |case| oracle_line(case, "origin "),

@@ -83,14 +83,7 @@ pub fn has_analysis(word: &[u8], sheet: &[u8]) -> u64 {
 pub fn readings(word: &[u8], sheet: &[u8], out: &mut [u8]) -> u64 {
     // SAFETY: as above, and the third slice is lent for writing.
     unsafe {
-        foreign::yunthirel_readings(
-            word.as_ptr(),
-            word.len(),
-            sheet.as_ptr(),
-            sheet.len(),
-            out.as_mut_ptr(),
-            out.len(),
-        )
+        foreign::yunthirel_readings(word.as_ptr(), word.len(), sheet.as_ptr(), sheet.len(), out.as_mut_ptr(), out.len())
     }
 }
 

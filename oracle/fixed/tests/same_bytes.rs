@@ -44,5 +44,8 @@ fn the_programs_replay_these_lists() {
         expected.extend(answers::listing(&case.word, &case.sheet));
     }
     assert!(printed == expected, "crates/worked/stdout is not what the oracle says for crates/worked/stdin");
-    assert!(cases.starts_with(&fixed::files().expect("bytes are written")[0].1), "crates/worked/stdin does not begin with the list");
+    assert!(
+        cases.starts_with(&fixed::files().expect("bytes are written")[0].1),
+        "crates/worked/stdin does not begin with the list"
+    );
 }

@@ -23,29 +23,35 @@ fn main() {
 
 /// The core call beside the Rust's: the same words and sheets, the check of the sheet counted apart.
 fn readings() {
-    println!("{:>24} {:>12} {:>12} {:>10} {:>10}", "readings", "Rust, us", "port, us", "Rust/port", "all/check");
+    println!(
+        "{:>24} {:>10} {:>10} {:>10} {:>10} {:>12}",
+        "readings", "Rust, us", "port, us", "Rust/port", "all/check", "Rust/walk"
+    );
     let own = |word: &str| own_sheet(word);
     let full = full_lexicon();
     let words: Vec<&str> = WORDS.to_vec();
     row("own sheets", &words, own);
     row("a full sheet", &words, |_| full.clone());
-    for word in ["अपरिचितहरूलाई", "निःनिःघरकोकोकोको", "निःनिःघरहरूकोमालेक्यारे"] {
+    for word in ["अपरिचितहरूलाई", "निःनिःघरकोकोकोको", "निःनिःघरहरूकोमालेक्यारे"]
+    {
         row(word, &[word], own_runs);
         row("  on a full sheet", &[word], |word| filled(&own_runs(word)));
     }
 }
 
-/// One row: the Rust's time for a word, the port's without the check of the sheet, their ratio, and all of the port's time against
-/// the check alone.
+/// One row: the Rust's time for a word, the port's without the check of the sheet, their ratio; all of the port's time against the
+/// check alone; and the Rust's time against the port's without all that the empty word takes on the same sheet, which is the check with
+/// the line starts stored and an empty list.
 fn row(name: &str, words: &[&str], sheet_of: impl Fn(&str) -> Vec<u8>) {
-    let (mut rust, mut port, mut check, mut stored) = (0.0, 0.0, 0.0, 0.0);
+    let list =
+        compare::QUESTIONS.iter().find(|question| question.name == "readings").expect("the question of readings");
+    let (mut rust, mut port, mut check, mut empty) = (0.0, 0.0, 0.0, 0.0);
     for word in words {
         let sheet = sheet_of(word);
-        let (_, forms) = acceptance::check(word.as_bytes(), &sheet).unwrap_or_else(|refusal| panic!("{word}: {refusal}"));
-        // The list itself is compared by `compare`; here only that both find something or nothing.
-        let some = answers::with_sheet(&forms, || shabda::has_supported_analysis(word));
-        let code = compare::port::has_analysis(word.as_bytes(), &sheet);
-        assert!(code == 7 || (code == 15) == some, "{word}: the port says {code}");
+        let (_, forms) =
+            acceptance::check(word.as_bytes(), &sheet).unwrap_or_else(|refusal| panic!("{word}: {refusal}"));
+        let case = blocks::Case { word: word.as_bytes().to_vec(), sheet: sheet.clone() };
+        assert_eq!((list.oracle)(&case), (list.port)(&case), "{word}: not the same list");
         let turns = 20;
         let mut best = [Duration::MAX; 4];
         for _ in 0..ROUNDS {
@@ -61,25 +67,24 @@ fn row(name: &str, words: &[&str], sheet_of: impl Fn(&str) -> Vec<u8>) {
                 black_box(compare::port::check_sheet(black_box(&sheet)));
             }));
             best[3] = best[3].min(time(turns, || {
-                black_box(compare::port::progressive(black_box("क".as_bytes()), black_box(&sheet)));
+                black_box(compare::port::has_analysis(black_box(b""), black_box(&sheet)));
             }));
         }
         let micros = |time: Duration| time.as_secs_f64() * 1e6 / turns as f64;
         rust += micros(best[0]);
         port += micros(best[1]);
         check += micros(best[2]);
-        stored += micros(best[3]);
+        empty += micros(best[3]);
     }
     let count = words.len() as f64;
     let rest = port - check;
     println!(
-        "{name:>24} {:12.2} {:12.2} {:10.1} {:10.2} {:10.2} {:10.1}",
+        "{name:>24} {:10.2} {:10.2} {:10.1} {:10.2} {:12.1}",
         rust / count,
         rest / count,
         rust / rest,
         port / check,
-        stored / check,
-        rust / (port - stored)
+        rust / (port - empty)
     );
 }
 
@@ -87,9 +92,12 @@ fn row(name: &str, words: &[&str], sheet_of: impl Fn(&str) -> Vec<u8>) {
 fn own_sheet(word: &str) -> Vec<u8> {
     let texts: Vec<&str> = shabda_texts();
     let asked = |name: &str| {
-        word.contains(name) || texts.iter().any(|text| name.strip_suffix(text).is_some_and(|run| word.contains(run) && !run.is_empty()))
+        word.contains(name)
+            || texts.iter().any(|text| name.strip_suffix(text).is_some_and(|run| word.contains(run) && !run.is_empty()))
     };
-    sheet_of(LEXICON.iter().filter(|(name, _)| asked(name)).map(|&(name, letters)| (name.to_string(), letters.to_string())))
+    sheet_of(
+        LEXICON.iter().filter(|(name, _)| asked(name)).map(|&(name, letters)| (name.to_string(), letters.to_string())),
+    )
 }
 
 /// Every run of the word's characters, known by w.
@@ -110,7 +118,8 @@ fn full_lexicon() -> Vec<u8> {
 
 /// The sheet with lines of other names, as full as whole lines allow.
 fn filled(sheet: &[u8]) -> Vec<u8> {
-    let mut lines: BTreeSet<String> = std::str::from_utf8(sheet).expect("a sheet is UTF-8").lines().map(|line| format!("{line}\n")).collect();
+    let mut lines: BTreeSet<String> =
+        std::str::from_utf8(sheet).expect("a sheet is UTF-8").lines().map(|line| format!("{line}\n")).collect();
     let mut size = sheet.len();
     for line in std::str::from_utf8(&full_sheet(acceptance::SHEET_LIMIT)).expect("UTF-8").lines() {
         let head = &line[..line.rfind(' ').expect("a form") + 1];
