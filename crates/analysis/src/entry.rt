@@ -122,7 +122,7 @@ fn listed(word: &[u8], sheet: &[u8], starts: &[Start]) -> Analysis
 }
 
 // The core call: every reading of the word that the sheet supports, each once, in rank order; or why there is none: the lowest
-// number that applies.
+// number that applies. Free: the rows past the count.
 pub fn analyze_affixes(word: &[u8], sheet: &[u8]) -> Analysis
     ensures { λ r. ⌜ (r .said ≡ saidOf (now (word .entry)) (now (sheet .entry))) × (rowsOf (r .list) ≡ rowsGiven (now (word .entry)) (now (sheet .entry)))
         × (r .list .count ≡ length (rowsGiven (now (word .entry)) (now (sheet .entry)))) ⌝ }

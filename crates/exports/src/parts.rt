@@ -110,7 +110,7 @@ fn put_root(list: Roots, k: usize, out: &mut [u8]) -> u64
 }
 
 // Candidate k of the word's root candidates: stored at the front of the buffer, where there is one. Handed back are the code of a
-// refusal, 8 for a buffer of less than 33 bytes, or 16 times the number of candidates.
+// refusal, 8 where there is one and the buffer has less than 33 bytes, or 16 times the number of candidates.
 #[no_mangle]
 pub extern "C" fn yunthirel_root(word: &[u8], sheet: &[u8], k: usize, out: &mut [u8]) -> u64
     ensures { λ r. ⌜ (r ≡ rootFilled (now (word .entry)) (now (sheet .entry)) k (now (out .entry)) .code)

@@ -6,3 +6,4 @@ pub mod Worked
 pub mod Room
 pub mod Told
 pub mod Answered
+pub mod Lowest

@@ -11,7 +11,7 @@ use Rattle.analysis.specs.Answers.{saidOf, rowsGiven, saidNumbers}
 use Rattle.analysis.specs.declared.entry.Said.{Said}
 use Rattle.analysis.specs.declared.entry.Said.the-variants.{Listed, Refused, TooMany}
 use Rattle.sheet.specs.Inputs.{numbersOf}
-use Rattle.listing.specs.Placed.{writtenOf, filled}
+use Rattle.listing.specs.Placed.{writtenOf, filled, writtenNumber}
 use Rattle.listing.specs.Texts.{listingText, refusedText}
 use Rattle.listing.specs.declared.Written.{Written}
 use Rattle.listing.specs.declared.Written.the-variants.{Bytes, TooShort}
@@ -43,6 +43,15 @@ outcomeNumbers (outcomes.Bytes n) = []
 outcomeNumbers (outcomes.Refused r) = numbersOf r
 outcomeNumbers outcomes.TooMany = 7 ∷ []
 outcomeNumbers outcomes.TooShort = 8 ∷ []
+
+-- the lowest number that applies: those of word, sheet and list come before that of the buffer
+abbrev pub shortNumbers : Written → List ℕ
+shortNumbers (Bytes n) = []
+shortNumbers TooShort = writtenNumber TooShort ∷ []
+
+abbrev pub elseNumbers : List ℕ → List ℕ → List ℕ
+elseNumbers [] rest = rest
+elseNumbers (n ∷ ns) rest = n ∷ ns
 
 -- What is printed: the list, or a line with the numbers of the refusal.
 abbrev pub saidText : List ℕ → Said → List Reading → List ℕ

@@ -6,8 +6,8 @@ use mathlib.Core.List.{List, [], _∷_, _++_, append-assoc}
 use Prim.Native.Nat.{ℕ, zero, suc, _+_, _-_, _*_, _<_, _≤_}
 use native.Mathlib.Numerals.{add-one}
 use native.Mathlib.Omega.{arith}
-use lib.ListN.{length, take, drop, getD, set, length-drop, drop-of-length-le}
-use lib.Seq.{drop-cons, drop-drop, take-at, take-suc-set, drop-set-lt}
+use lib.ListN.{length, take, drop, getD, set, length-append, length-drop, drop-of-length-le, take-append-drop}
+use lib.Seq.{drop-cons, drop-drop, drop-at, take-at, take-suc-set, drop-set-lt, length-take-le, getD-drop}
 use lib.Dec.{eqb, ltb}
 use borrow.Author.Tests.{ltb-true, ltb-false}
 use Rattle.runs.specs.Runs.{pick}
@@ -97,6 +97,22 @@ module _ (out old : List ℕ) (n at : ℕ) (h : n < length out) where
   pub stored-behind : drop n out ≡ drop n old → drop (n + 1) (set out n at) ≡ drop (n + 1) old
   stored-behind e =
       drop-set-lt (n + 1) out n at (omega arith) ∙ sym (drop-drop 1 n out) ∙ ap (λ (l : List ℕ). drop 1 l) e ∙ drop-drop 1 n old
+
+-- so far n starts are stored in `out`, which was `old` before; `rest` are those to come
+module _ (starts out old : List ℕ) (n : ℕ) (h : n ≤ length out) where
+  pub stored-far : (rest : List ℕ) → starts ≡ take n out ++ rest → drop n out ≡ drop n old → out ≡ take n starts ++ drop n old
+  stored-far rest e f =
+      let t : take n starts ≡ take n out = ap (λ (l : List ℕ). take n l) e ∙ take-at (take n out) rest n (length-take-le n out h) in
+      sym (take-append-drop n out) ∙ ap (λ (l : List ℕ). l ++ drop n out) (sym t) ∙ ap (λ (l : List ℕ). take n starts ++ l) f
+
+  -- the line to come is number n
+  pub line-next : (at : ℕ) (rest : List ℕ) → starts ≡ take n out ++ at ∷ rest → (n < length starts) × (getD starts n 0 ≡ at)
+  line-next at rest e =
+      let l : length starts ≡ length (take n out) + suc (length rest) = ap length e ∙ length-append (take n out) (at ∷ rest) in
+      let m : length (take n out) ≡ n = length-take-le n out h in
+      let d : drop n starts ≡ at ∷ rest = ap (λ (x : List ℕ). drop n x) e ∙ drop-at (take n out) (at ∷ rest) n m in
+      let z : n + 0 ≡ n = omega arith in
+      (omega arith, ap (λ (k : ℕ). getD starts k 0) (sym z) ∙ sym (getD-drop n starts 0 0) ∙ ap (λ (x : List ℕ). getD x 0 0) d)
 
 -- what the caller of `fill_starts` has: the stored starts stand for the accepted sheet in a search
 pub filled : (s out old : List ℕ) (r : ℕ) → sheetCheck s ≡ Accepted → r ≡ length (startsOf s) → out ≡ startsOf s ++ drop r old →

@@ -2,9 +2,10 @@
 -- Assumes nothing.
 use Prim.Native.Nat.{ℕ, _≤_}
 use native.Mathlib.Omega.{arith}
-use mathlib.Core.Path.{_≡_, refl, sym, ap, _∙_}
+use mathlib.Core.Path.{_≡_, refl, sym, ap, subst, _∙_}
 use mathlib.Core.List.{List, _++_}
 use lib.ListN.{length, take, drop, length-append}
+use lib.Seq.{take-all}
 use Rattle.text.specs.Word.{wordCheck}
 use Rattle.text.specs.declared.word.WordCheck.{WordCheck}
 use Rattle.text.specs.declared.word.WordCheck.the-variants as words
@@ -20,35 +21,32 @@ use Rattle.sheet.specs.declared.inputs.Inputs.the-variants as inputs
 use Rattle.lookup.specs.declared.lines.Checked.{Checked}
 use Rattle.lookup.specs.declared.lines.Ready.{Ready}
 use Rattle.lookup.proofs.Count.{filled}
-use Rattle.lookup.specs.Stored.{Stored, SheetReady, Prepared}
+use Rattle.lookup.specs.Stored.{Counted, Stored, SheetReady, CountedBy, Prepared}
 
 module _ (s before after : List ℕ) (c : Checked) (k : Stored s before after c) where
-  pub sheet-accepted : c .said ≡ sheets.Accepted → SheetReady s before after (record { inputs = inputs.Accepted; lines = c .lines })
-  sheet-accepted e = record { said = ap bySheet (sym e ∙ k .said); lines = λ f. k .lines e; stored = λ f. k .stored e }
-
-  pub sheet-refused : (x : SheetCheck) (r : Refusal) (n : ℕ) → c .said ≡ x → bySheet x ≡ inputs.Refused r
-      → SheetReady s before after (record { inputs = inputs.Refused r; lines = n })
-  sheet-refused x r n e f = record {
+  -- what was said is x, which makes the inputs i
+  pub sheet-ready : (x : SheetCheck) (i : Inputs) → c .said ≡ x → bySheet x ≡ i → SheetReady s before after (record { inputs = i; lines = c .lines })
+  sheet-ready x i e f = record {
     said = sym f ∙ ap bySheet (sym e ∙ k .said);
-    lines = λ g. let z : _≡_ {A = ℕ} 0 1 = cc in absurd (omega arith);
-    stored = λ g. let z : _≡_ {A = ℕ} 0 1 = cc in absurd (omega arith);
+    lines = subst (λ (y : SheetCheck). Counted s y (c .lines)) (k .said) (k .lines);
+    stored = k .stored;
   }
 
-module _ (w s before after : List ℕ) where
-  pub word-refused : (y x : WordCheck) (r : Refusal) (n : ℕ) → y ≡ wordCheck w → y ≡ x → ((i : Inputs) → byWordThen x i ≡ inputs.Refused r)
-      → Prepared w s before after (record { inputs = inputs.Refused r; lines = n })
+module _ (w s before : List ℕ) where
+  pub word-refused : (y x : WordCheck) (r : Refusal) → y ≡ wordCheck w → y ≡ x → ((i : Inputs) → byWordThen x i ≡ inputs.Refused r) → CountedBy x s 0
+      → Prepared w s before before (record { inputs = inputs.Refused r; lines = 0 })
   unfolding inputsOf
-  word-refused y x r n e f g = record {
+  word-refused y x r e f g z = record {
     said = sym (g (bySheet (sheetCheck s))) ∙ ap (λ (v : WordCheck). byWordThen v (bySheet (sheetCheck s))) (sym f ∙ e);
-    lines = λ h. let z : _≡_ {A = ℕ} 0 1 = cc in absurd (omega arith);
-    stored = λ h. let z : _≡_ {A = ℕ} 0 1 = cc in absurd (omega arith);
+    lines = subst (λ (v : WordCheck). CountedBy v s 0) (sym f ∙ e) z;
+    stored = refl;
   }
 
-  pub word-accepted : (y : WordCheck) (r : Ready) → y ≡ wordCheck w → y ≡ words.Accepted → SheetReady s before after r → Prepared w s before after r
+  pub word-accepted : (after : List ℕ) (y : WordCheck) (r : Ready) → y ≡ wordCheck w → y ≡ words.Accepted → SheetReady s before after r → Prepared w s before after r
   unfolding inputsOf
-  word-accepted y r e f k = record {
+  word-accepted after y r e f k = record {
     said = k .said ∙ ap (λ (v : WordCheck). byWordThen v (bySheet (sheetCheck s))) (sym f ∙ e);
-    lines = k .lines;
+    lines = subst (λ (v : WordCheck). CountedBy v s (r .lines)) (sym f ∙ e) (k .lines);
     stored = k .stored;
   }
 
@@ -57,6 +55,8 @@ pub ready : (w s before after : List ℕ) (r : Ready) → Prepared w s before af
     (wordCheck w ≡ words.Accepted) × (r .lines ≤ length after) × Indexed s (take (r .lines) after)
 ready w s before after r k e =
     let a = accepted-each w s (sym (k .said) ∙ e) in
-    let n = k .lines e in
-    let o : after ≡ startsOf s ++ drop (r .lines) before = k .stored e ∙ ap (λ (m : ℕ). startsOf s ++ drop m before) (sym n) in
+    let c : CountedBy words.Accepted s (r .lines) = subst (λ (v : WordCheck). CountedBy v s (r .lines)) (a .0) (k .lines) in
+    let n : r .lines ≡ length (startsOf s) = subst (λ (v : SheetCheck). Counted s v (r .lines)) (a .1) c in
+    let t : take (r .lines) (startsOf s) ≡ startsOf s = take-all (r .lines) (startsOf s) (omega arith) in
+    let o : after ≡ startsOf s ++ drop (r .lines) before = k .stored ∙ ap (λ (l : List ℕ). l ++ drop (r .lines) before) t in
     (a .0, omega (arith, ap length o, length-append (startsOf s) (drop (r .lines) before), n), filled s after before (r .lines) (a .1) n o)

@@ -27,8 +27,8 @@ pub struct Ready {
     pub lines: usize,
 }
 
-// The check of a sheet, as `sheet::check::check_sheet` makes it. The first bytes of an accepted sheet's lines are stored at the front
-// of `out`, which has room for 6,553. Free: what is stored of a refused sheet.
+// The check of a sheet, as `sheet::check::check_sheet` makes it. The first bytes of its lines are stored at the front of `out`, which has
+// room for 6,553: of all lines, or of those before the faulty one.
 pub fn check_lines(s: &[u8], out: &mut [Start]) -> Checked
     requires { ⌜ lineLimit ≤ length (now out) ⌝ }
     ensures { λ r. ⌜ Stored (now (s .entry)) (now (out .entry)) (now (out .exit)) r ⌝ }
@@ -109,8 +109,8 @@ fn sheet_ready(sheet: &[u8], out: &mut [Start]) -> Ready
     }
 }
 
-// Whether word and sheet are accepted, as `sheet::inputs::check_inputs` says it. The first bytes of an accepted sheet's lines are
-// stored at the front of `out`, which has room for 6,553. Free: what is stored where word or sheet is refused.
+// Whether word and sheet are accepted, as `sheet::inputs::check_inputs` says it. The first bytes of the sheet's lines are stored at the
+// front of `out`, as `check_lines` does it; of a refused word nothing is stored.
 pub fn prepare(word: &[u8], sheet: &[u8], out: &mut [Start]) -> Ready
     requires { ⌜ lineLimit ≤ length (now out) ⌝ }
     ensures { λ r. ⌜ Prepared (now (word .entry)) (now (sheet .entry)) (now (out .entry)) (now (out .exit)) r ⌝ }

@@ -4,3 +4,4 @@ pub mod Decided
 pub mod Contained
 pub mod Alike
 pub mod Worked
+pub mod Refused

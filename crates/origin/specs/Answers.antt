@@ -1,7 +1,7 @@
 -- What the entries of origin hand back for any word and any sheet (document 01, "What an entry hands back"). Assumes nothing.
 use Prim.Native.Nat.{ℕ}
-use mathlib.Core.List.{List}
-use Rattle.sheet.specs.Inputs.{inputsOf}
+use mathlib.Core.List.{List, []}
+use Rattle.sheet.specs.Inputs.{inputsOf, numbersOf}
 use Rattle.sheet.specs.Replies.{reply}
 use Rattle.sheet.specs.declared.inputs.Inputs.{Inputs}
 use Rattle.sheet.specs.declared.inputs.Inputs.the-variants as inputs
@@ -23,3 +23,12 @@ decisionAnswer word sheet = decisionIf (inputsOf word sheet) word sheet
 abbrev pub originOnly : DecisionAnswer → OriginAnswer
 originOnly (decisions.Decided d) = origins.Known (d .origin)
 originOnly (decisions.Refused r) = origins.Refused r
+
+-- document 01's number of each answer, none where one is given
+abbrev pub decisionNumbers : DecisionAnswer → List ℕ
+decisionNumbers (decisions.Decided d) = []
+decisionNumbers (decisions.Refused r) = numbersOf r
+
+abbrev pub classifyNumbers : OriginAnswer → List ℕ
+classifyNumbers (origins.Known o) = []
+classifyNumbers (origins.Refused r) = numbersOf r

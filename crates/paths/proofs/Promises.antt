@@ -9,6 +9,7 @@ use Rattle.text.specs.Utf8.{isUtf8}
 use Rattle.text.specs.Characters.{chars}
 use Rattle.sheet.specs.Replies.{Ask, reply, Alike}
 use Rattle.ranking.specs.Lists.{Rows, rows, over, plusAll}
+use Rattle.ranking.specs.Rank.{stemText, rootText}
 use Rattle.ranking.specs.declared.Reading.{Reading}
 use Rattle.paths.specs.Chains.{Route, PathOf}
 use Rattle.paths.specs.Readings.{Parts, partsOf, IsReading, readingOf}
@@ -16,7 +17,7 @@ use Rattle.paths.specs.Rank.{rankedBefore}
 use Rattle.paths.specs.Counted.{Pairwise, Distinct, AtLeast}
 use Rattle.paths.specs.Questions.{Own}
 use Rattle.paths.specs.Walk.{wordWalk}
-use Rattle.paths.proofs.Stated.{rowPaths, rows-given, row-path, rows-ranked, rows-once}
+use Rattle.paths.proofs.Stated.{rowPaths, rows-given, row-path, rows-ranked, rows-once, stem-is, root-is}
 use Rattle.paths.proofs.Over as counted
 use Rattle.paths.proofs.Score.{path-score}
 use Rattle.paths.proofs.Alike as questions
@@ -26,13 +27,14 @@ abbrev pub collected : Ask → List ℕ → Rows
 collected ask w = plusAll w (rows []) (wordWalk ask (chars w) w)
 
 -- the rows of a list: every path of the word and nothing besides, no reading twice, each before all later ones by rank, each with its
--- segments and its score, which is at most 612
+-- segments, its stem and root as the parts of the word that they are, and its score, which is at most 612
 pub record Listed (ask : Ask) (w : List ℕ) (rs : List Reading) : Type 0 where
   pub paths : List Route
   pub each : (p : Route) → List·Memᴰ p paths ↔ PathOf ask w p
   pub once : Distinct (map partsOf paths)
   pub ranked : Pairwise (λ p q. rankedBefore ask w p q ≡ true) paths
   pub rows-are : map (readingOf ask w) paths ≡ rs
+  pub texts : (p : Route) → List·Memᴰ p paths → (stemText w (readingOf ask w p) ≡ p .stem) × (rootText w (readingOf ask w p) ≡ p .root)
   pub scores : length w ≤ 192 → (p : Route) → List·Memᴰ p paths → readingOf ask w p .score ≤ 612
 
 module _ (ask : Ask) (w : List ℕ) where
@@ -51,6 +53,7 @@ module _ (ask : Ask) (w : List ℕ) where
       once = rows-once ask w u;
       ranked = rows-ranked ask w u;
       rows-are = refl;
+      texts = λ p m. let a = row-path ask w p .0 m in (stem-is ask w p a, root-is ask w p a);
       scores = λ h p m. path-score ask w p h (row-path ask w p .0 m);
     },
   )

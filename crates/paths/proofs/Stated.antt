@@ -20,7 +20,7 @@ use Rattle.strips.proofs.Parts.{begun, utf8-begun, utf8-back}
 use Rattle.tables.proofs.Compared.{by-order}
 use Rattle.sheet.specs.Replies.{Ask}
 use Rattle.ranking.specs.Parts.{part}
-use Rattle.ranking.specs.Rank.{isLess, larger, rootText, aheadOf}
+use Rattle.ranking.specs.Rank.{isLess, larger, rootText, aheadOf, stemText}
 use Rattle.paths.specs.Chains.{Strip, rowsAfter, Suffixed, Route, PathOf}
 use Rattle.paths.specs.Readings.{Parts, partsOf, readingOf}
 use Rattle.paths.specs.Rank.{orElse, smaller, scoreBy, placeOf, earlier, rankedOr, rankedBefore}
@@ -112,6 +112,13 @@ root-is ask w p a =
     let f = prefix-front ask (p .stem) (p .prefixRows) (p .root) (a .prefixed) in
     let t = suffix-back ask 25 w (p .strips) (p .stem) (a .suffixed) in
     part-is w (p .stem) (f .0) (p .root) (t .0) (f .2) (t .1)
+
+pub stem-is : (ask : Ask) (w : List ℕ) (p : Route) → PathOf ask w p → stemText w (readingOf ask w p) ≡ p .stem
+unfolding readingOf
+stem-is ask w p a =
+    let t = suffix-back ask 25 w (p .strips) (p .stem) (a .suffixed) in
+    let z : length (p .stem) - length (p .stem) ≡ 0 = omega arith in
+    ap (λ (n : ℕ). part w n (length (p .stem))) (sym z) ∙ part-is w (p .stem) [] (p .stem) (t .0) refl (t .1)
 
 -- The two ranks.
 

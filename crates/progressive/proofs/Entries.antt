@@ -5,7 +5,7 @@ use Prim.Native.Nat.{ℕ, _+_, _-_, _≤_}
 use native.Mathlib.Omega.{arith}
 use lib.ListN.{length, take, drop, length-append}
 use Rattle.sheet.specs.Lines.{startsOf}
-use Rattle.sheet.specs.Inputs.{inputsOf, numbersGiven}
+use Rattle.sheet.specs.Inputs.{inputsOf, numbersGiven, lowestNumbers}
 use Rattle.sheet.specs.Replies.{reply}
 use Rattle.sheet.specs.declared.inputs.Refusal.{Refusal}
 use Rattle.sheet.specs.declared.inputs.Inputs.{Inputs}
@@ -17,7 +17,7 @@ use Rattle.progressive.specs.declared.entry.Answer.the-variants.{Refused
 use Rattle.progressive.specs.declared.entry.Supported.{Supported}
 use Rattle.progressive.specs.declared.entry.Supported.the-variants as supports
 use Rattle.progressive.specs.Found.{FormAt, partAt}
-use Rattle.progressive.specs.Answers.{answerIf, answerOf, formGiven, nameIf, lemmaText, Lies, Analyzed, supportedIf, supportedOf}
+use Rattle.progressive.specs.Answers.{answerIf, answerOf, formGiven, nameIf, lemmaText, Lies, Analyzed, supportedIf, supportedOf, supportedNumbers}
 use Rattle.progressive.specs.Progressive.{progressiveOf}
 use Rattle.progressive.proofs.Forms.{form-found}
 
@@ -79,3 +79,12 @@ module _ (w s : List ℕ) where
 pub filled-length : (s out old : List ℕ) (r : ℕ) → r ≡ length (startsOf s) → out ≡ startsOf s ++ drop r old → r ≤ length out
 filled-length s out old r n e =
     let l : length out ≡ length (startsOf s ++ drop r old) = ap length e in omega (arith, length-append (startsOf s) (drop r old))
+
+-- the number of a refusal is the lowest that applies
+pub supported-lowest : (w s : List ℕ) → supportedNumbers (supportedOf w s) ≡ lowestNumbers w s
+unfolding supportedOf
+supported-lowest w s = by (inputsOf w s) ∙ lowest w s
+  where
+    by : (i : Inputs) → supportedNumbers (supportedIf i w s) ≡ numbersGiven i
+    by inputs.Accepted = refl
+    by (inputs.Refused r) = refl

@@ -65,3 +65,8 @@ supportedIf (inputs.Refused r) w s = supports.Refused r
 
 unfoldable pub supportedOf : List ℕ → List ℕ → Supported
 supportedOf w s = supportedIf (inputsOf w s) w s
+
+-- document 01's number of each answer, none where one is given
+abbrev pub supportedNumbers : Supported → List ℕ
+supportedNumbers (supports.Refused r) = numbersOf r
+supportedNumbers (supports.Given b) = []

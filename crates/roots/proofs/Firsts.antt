@@ -5,10 +5,12 @@ use native.Mathlib.Omega.{arith}
 use mathlib.Core.Path.{_≡_, refl, sym, ap, _∙_}
 use mathlib.Core.Bool.{Bool, true, false}
 use mathlib.Core.List.{List, [], _∷_}
-use Rattle.sheet.specs.Inputs.{inputsOf}
+use Rattle.sheet.specs.Inputs.{inputsOf, numbersGiven, lowestNumbers}
+use Rattle.sheet.proofs.Refusals.{lowest}
 use Rattle.sheet.specs.declared.inputs.Inputs.{Inputs}
+use Rattle.sheet.specs.declared.inputs.Inputs.the-variants as inputs
 use Rattle.roots.specs.Lists.{rowsOf, isSome}
-use Rattle.roots.specs.Answers.{rootsFor, RootsGiven, blank, bestIn, bestAnswer, knownIf, knownAnswer}
+use Rattle.roots.specs.Answers.{rootsFor, RootsGiven, blank, bestIn, bestAnswer, knownIf, knownAnswer, knownNumbers}
 use Rattle.roots.specs.declared.RootCandidate.{RootCandidate}
 use Rattle.roots.specs.declared.entries.RootsAnswer.{RootsAnswer}
 use Rattle.roots.specs.declared.entries.BestRoot.{BestRoot}
@@ -39,3 +41,12 @@ module _ (word sheet : List ℕ) (r : RootsAnswer) (g : RootsGiven word sheet r)
   pub known-given : (a : KnownAnswer) → a ≡ knownIf (r .inputs) (rowsOf (r .roots)) → a ≡ knownAnswer word sheet
   unfolding knownAnswer
   known-given a e = e ∙ ap (λ (i : Inputs). knownIf i (rowsOf (r .roots))) (g .said) ∙ ap (knownIf (inputsOf word sheet)) (g .listed)
+
+-- the number of a refusal is the lowest that applies
+pub known-lowest : (w s : List ℕ) → knownNumbers (knownAnswer w s) ≡ lowestNumbers w s
+unfolding knownAnswer
+known-lowest w s = by (inputsOf w s) ∙ lowest w s
+  where
+    by : (i : Inputs) → knownNumbers (knownIf i (rootsFor w s)) ≡ numbersGiven i
+    by inputs.Accepted = refl
+    by (inputs.Refused r) = refl

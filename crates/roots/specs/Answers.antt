@@ -6,7 +6,7 @@ use mathlib.Core.Bool.{Bool, true, false}
 use mathlib.Core.List.{List, [], _∷_}
 use Rattle.sheet.specs.Replies.{reply}
 use Rattle.tables.specs.declared.origins.Origin.the-variants.{Deshaj}
-use Rattle.sheet.specs.Inputs.{inputsOf}
+use Rattle.sheet.specs.Inputs.{inputsOf, numbersOf}
 use Rattle.sheet.specs.declared.inputs.Inputs.{Inputs}
 use Rattle.sheet.specs.declared.inputs.Inputs.the-variants as inputs
 use Rattle.decomposition.specs.Strips.{noFront}
@@ -52,3 +52,8 @@ knownIf (inputs.Refused r) xs = answers.Refused r
 
 unfoldable pub knownAnswer : List ℕ → List ℕ → KnownAnswer
 knownAnswer word sheet = knownIf (inputsOf word sheet) (rootsFor word sheet)
+
+-- document 01's number of each answer, none where one is given
+abbrev pub knownNumbers : KnownAnswer → List ℕ
+knownNumbers (answers.Known b) = []
+knownNumbers (answers.Refused r) = numbersOf r

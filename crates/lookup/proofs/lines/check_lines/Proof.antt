@@ -7,7 +7,7 @@ use borrow.Author.Tests.{lt-ltb, le-ltb, not-true, not-false}
 use mathlib.Core.Path.{_≡_, refl, sym, ap, subst, _∙_}
 use mathlib.Core.Bool.{true, false}
 use mathlib.Core.List.{List, [], _∷_, _++_, append-nil}
-use lib.ListN.{length, take, drop, length-set, take-append-drop}
+use lib.ListN.{length, take, drop, length-set}
 use lib.Seq.{length-take-le}
 use Rattle.runs.specs.Runs.{cmp}
 use Rattle.sheet.specs.Forms.{isForm, key}
@@ -16,7 +16,7 @@ use Rattle.sheet.specs.Steps.{nameEnd, valueEnd, stepAt}
 use Rattle.sheet.proofs.Lines.{Spaced, keyFrom, cmp-spaced, judged-no-form, judged-not-above, judged-on, form-told, end-told, no-form-told, line-fits, next-line, no-form-starts, letter-to-name, end-starts}
 use Rattle.lookup.specs.Starts.{shortestLine}
 use Rattle.lookup.proofs.Forms.{line-end, line-long}
-use Rattle.lookup.proofs.Count.{no-lines, stored-front, stored-behind}
+use Rattle.lookup.proofs.Count.{next-start, no-lines, stored-front, stored-behind, stored-far, line-next}
 use Rattle.lookup.proofs.lines.check_lines.Statement.{statement}
 use Rattle.lookup.proofs.lines.check_lines.Tie as tie
 
@@ -40,11 +40,7 @@ abbrev μ-loop : tie.MeasureT-loop
 
 returns : tie.Need-returns Inv-loop μ-loop
 unfolding sheetCheck
-returns c = record {
-  said = simp (lt-ltb _ _ (c .if1 .taken));
-  lines = λ e. let z : _≡_ {A = ℕ} 0 1 = cc in absurd (omega arith);
-  stored = λ e. let z : _≡_ {A = ℕ} 0 1 = cc in absurd (omega arith);
-}
+returns c = record { said = simp (lt-ltb _ _ (c .if1 .taken)); lines = refl; stored = refl }
 
 loop-holds : tie.Need-loop-holds Inv-loop μ-loop
 loop-holds c = (omega arith, omega arith, omega arith, tt, refl, omega arith, omega arith, refl, refl)
@@ -83,10 +79,8 @@ returns-2 c =
     let m : d .loop .n ≡ length (startsOf (sheet-of d)) = sym (ap length p ∙ length-take-le (d .loop .n) (d .loop .out) q) in
     record {
       said = sym (judged-rest d ∙ end-starts (sheet-of d) _ (d .loop .cursor .at) h);
-      lines = λ e. m;
-      stored = λ e.
-          sym (take-append-drop (d .loop .n) (d .loop .out)) ∙ ap (λ (l : List ℕ). l ++ drop (d .loop .n) (d .loop .out)) (sym p)
-          ∙ ap (λ (l : List ℕ). startsOf (sheet-of d) ++ l) (d .loop .inv .8 ∙ ap (λ (k : ℕ). drop k (list-of d)) m);
+      lines = m;
+      stored = stored-far (startsOf (sheet-of d)) (d .loop .out) (list-of d) (d .loop .n) q _ (d .loop .inv .7) (d .loop .inv .8);
     }
 
 same-length : tie.Need-same-length Inv-loop μ-loop
@@ -105,8 +99,8 @@ returns-3 c =
     let h = no-form-told (sheet-of d) (d .loop .cursor .at) (sym (c .enum-told2 .given .1) ∙ t .step .ensures) in
     record {
       said = sym (judged-rest d ∙ no-form-starts (sheet-of d) _ (d .loop .cursor .at) (h .0) (h .1));
-      lines = λ e. let z : _≡_ {A = ℕ} 0 1 = cc in absurd (omega arith);
-      stored = λ e. let z : _≡_ {A = ℕ} 0 1 = cc in absurd (omega arith);
+      lines = line-next (startsOf (sheet-of d)) (d .loop .out) (list-of d) (d .loop .n) (few d) (d .loop .cursor .at) _ (d .loop .inv .7 ∙ ap (λ (x : List ℕ). take (d .loop .n) (d .loop .out) ++ x) (next-start (sheet-of d) (d .loop .cursor .at) _ (h .0) refl));
+      stored = stored-far (startsOf (sheet-of d)) (d .loop .out) (list-of d) (d .loop .n) (few d) _ (d .loop .inv .7) (d .loop .inv .8);
     }
 
 enum-known-line : tie.Need-enum-known-line Inv-loop μ-loop
@@ -163,8 +157,8 @@ returns-4 c =
     let d = l .before .before .before in
     record {
       said = sym (judged-rest d ∙ ap (judged (sheet-of d) _) (lines-at l) ∙ judged-not-above (sheet-of d) _ _ (d .loop .cursor .at) (told l .1) (sym (order-at r) ∙ not-true _ (c .if2 .taken)));
-      lines = λ e. let z : _≡_ {A = ℕ} 0 1 = cc in absurd (omega arith);
-      stored = λ e. let z : _≡_ {A = ℕ} 0 1 = cc in absurd (omega arith);
+      lines = line-next (startsOf (sheet-of d)) (d .loop .out) (list-of d) (d .loop .n) (few d) (d .loop .cursor .at) _ (d .loop .inv .7 ∙ ap (λ (x : List ℕ). take (d .loop .n) (d .loop .out) ++ x) (lines-at l));
+      stored = stored-far (startsOf (sheet-of d)) (d .loop .out) (list-of d) (d .loop .n) (few d) _ (d .loop .inv .7) (d .loop .inv .8);
     }
 
 same-length-3 : tie.Need-same-length-3 Inv-loop μ-loop

@@ -26,17 +26,17 @@ sheet-ready-requires c κs = search needs
 returns : tie.Need-returns
 returns c =
     let k = c .before .before in
-    word-refused _ _ _ _ (k .check-word .result) _ _ _ (k .check-word .ensures) (c .enum-told .given .1) (λ i. refl)
+    word-refused _ _ _ (k .check-word .result) _ _ (k .check-word .ensures) (c .enum-told .given .1) (λ i. refl) refl
 
 returns-2 : tie.Need-returns-2
 returns-2 c =
     let k = c .before .before in
-    word-refused _ _ _ _ (k .check-word .result) _ _ _ (k .check-word .ensures) (c .enum-told2 .given .1) (λ i. refl)
+    word-refused _ _ _ (k .check-word .result) _ _ (k .check-word .ensures) (c .enum-told2 .given .1) (λ i. refl) refl
 
 returns-3 : tie.Need-returns-3
 returns-3 c =
     let k = c .before .before in
-    word-refused _ _ _ _ (k .check-word .result) _ _ _ (k .check-word .ensures) (c .enum-told3 .given .1) (λ i. refl)
+    word-refused _ _ _ (k .check-word .result) _ _ (k .check-word .ensures) (c .enum-told3 .given .1) (λ i. refl) refl
 
 same-length : tie.Need-same-length
 same-length c = search needs
