@@ -3,6 +3,7 @@ pub mod Supported
 pub mod Added
 pub mod Cuts
 pub mod Turns
+pub mod Opened
 pub mod Strips
 pub mod Accepted
 pub mod Promises

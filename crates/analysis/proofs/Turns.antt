@@ -25,7 +25,7 @@ unfolding plusAll
 plus-none w a = refl
 
 -- a piece that does not begin with the form has no remainder
-no-remainder : (piece form : List ℕ) → beginsWith form piece ≡ false → prefixRemainder piece form ≡ []
+pub no-remainder : (piece form : List ℕ) → beginsWith form piece ≡ false → prefixRemainder piece form ≡ []
 unfolding prefixRemainder leaves
 no-remainder piece form e = rw e
 
@@ -55,6 +55,11 @@ module _ (ask : Ask) (surface : ℕ) (c : Chain) (w stem : List ℕ) (first : �
   unfolding secondWalk
   second-none p = rw (p, append-nil) e
 
+  -- where no form begins what is left, there is no second prefix
+  pub second-bare : isProgressive ask left ≡ false → ((f : ℕ → List ℕ → List Reading) → overForms f left 0 30 ≡ []) → g ≡ plusAll w a (secondWalk ask surface c stem first left)
+  unfolding secondWalk
+  second-bare p n = rw (p, n, append-nil) e
+
   pub second-some : (h : Rows) → isProgressive ask left ≡ false
       → h ≡ plusAll w g (overForms (λ second rest. rootWalk ask surface c stem (first ∷ second ∷ []) rest) left 0 30) → h ≡ plusAll w a (secondWalk ask surface c stem first left)
   unfolding secondWalk
@@ -67,6 +72,10 @@ module _ (ask : Ask) (surface : ℕ) (c : Chain) (w stem : List ℕ) (a g : Rows
   pub stem-none : isProgressive ask stem ≡ true → g ≡ plusAll w a (stemWalk ask surface c stem)
   unfolding stemWalk
   stem-none p = rw (p, append-nil) e
+
+  pub stem-bare : isProgressive ask stem ≡ false → ((f : ℕ → List ℕ → List Reading) → overForms f stem 0 30 ≡ []) → g ≡ plusAll w a (stemWalk ask surface c stem)
+  unfolding stemWalk
+  stem-bare p n = rw (p, n, append-nil) e
 
   pub stem-some : (h : Rows) → isProgressive ask stem ≡ false → h ≡ plusAll w g (overForms (secondWalk ask surface c stem) stem 0 30) → h ≡ plusAll w a (stemWalk ask surface c stem)
   unfolding stemWalk

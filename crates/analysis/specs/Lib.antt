@@ -1,3 +1,4 @@
 pub mod Supports
+pub mod Fronts
 pub mod Places
 pub mod Answers

@@ -1,5 +1,6 @@
 // Readings of a word: what the strip rules allow and the sheet supports.
 pub mod entry;
+pub mod fronts;
 pub mod prefixes;
 pub mod roots;
 pub mod suffixes;

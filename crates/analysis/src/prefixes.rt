@@ -1,4 +1,5 @@
 // The readings of a stem: taken for the root itself, then with one prefix stripped, and two.
+use crate::fronts::may_begin;
 use crate::roots::with_root;
 use lookup::starts::Start;
 use paths::Chain;
@@ -178,6 +179,9 @@ fn first_row(
             if progressive {
                 return f;
             }
+            if !may_begin(&word[root..stem]) {
+                return f;
+            }
             second_rows(
                 word,
                 sheet,
@@ -276,6 +280,9 @@ pub(crate) fn with_stem(
         found,
     );
     if progressive {
+        return f;
+    }
+    if !may_begin(&word[..stem]) {
         return f;
     }
     first_rows(

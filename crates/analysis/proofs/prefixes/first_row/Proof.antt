@@ -19,8 +19,10 @@ use Rattle.paths.specs.Chains.{formOf}
 use Rattle.paths.specs.Walk.{rootWalk, onLeft, secondWalk}
 use Rattle.analysis.specs.Places.{between}
 use Rattle.analysis.proofs.Cuts.{front-none, front-left, root-at}
-use Rattle.analysis.proofs.Turns.{second-none, second-some}
+use Rattle.analysis.proofs.Turns.{second-none, second-bare, second-some}
+use Rattle.analysis.proofs.Opened.{no-forms}
 use borrow.Author.Needs.{needs}
+use borrow.Author.Tests.{not-true}
 use Rattle.analysis.proofs.prefixes.first_row.Statement.{statement}
 use Rattle.analysis.proofs.prefixes.first_row.Tie as tie
 
@@ -78,9 +80,9 @@ with-root-requires c κs =
     let a = start (r .before .before) in
     (a .pre .0 .indexed, a .pre .0 .texts-laid, inside r, a .pre .1, a .pre .0 .short, a .pre .3, omega arith, a .pre .4, c .has-supported-progressive-form .ensures)
 
-returns-2 : tie.Need-returns-2
+returns-3 : tie.Need-returns-3
 unfolding plusAll
-returns-2 c =
+returns-3 c =
     let p = c .before .before in
     let a = start p .args in
     sym (ap (λ (l : List (List ℕ)). plusAll (a .word .now) (foundOf (a .found)) (onLeft (secondWalk (reply (a .sheet .now)) (a .surface) (a .chain) (take (a .stem) (a .word .now)) (a .first)) l))
@@ -114,20 +116,44 @@ returns c =
     (sym (w .before .has-supported-progressive-form .ensures) ∙ c .if1 .taken)
     ∙ sym (ap (λ (l : List (List ℕ)). plusAll (a .word .now) (foundOf (a .found)) (onLeft (secondWalk (reply (a .sheet .now)) (a .surface) (a .chain) (take (a .stem) (a .word .now)) (a .first)) l)) (left w))
 
+sub-may-begin : tie.Need-sub-may-begin
+sub-may-begin c = inside (from-rest (c .before))
+
+part-may-begin-start : tie.Need-part-may-begin-start
+part-may-begin-start c = omega (arith, inside (from-rest (c .before)), start (at-strip (c .before)) .pre .1)
+
+part-may-begin-end : tie.Need-part-may-begin-end
+part-may-begin-end c = search needs
+
+may-begin-requires : tie.Need-may-begin-requires
+may-begin-requires c κs = tt
+
+returns-2 : tie.Need-returns-2
+returns-2 c =
+    let e = c .before .before .before in
+    let w = e .before in
+    let a = start (at-strip w) .args in
+    second-bare (reply (a .sheet .now)) (a .surface) (a .chain) (a .word .now) (take (a .stem) (a .word .now)) (a .first) (between (a .word .now) (from-rest w .rest .given .0 .0) (a .stem)) _ _ (own w)
+    (sym (w .before .has-supported-progressive-form .ensures) ∙ e .if1 .left)
+    (λ f. no-forms f (between (a .word .now) (from-rest w .rest .given .0 .0) (a .stem)) (sym (c .before .may-begin .ensures) ∙ not-true _ (c .if2 .taken)) 0 30 (omega arith))
+    ∙ sym (ap (λ (l : List (List ℕ)). plusAll (a .word .now) (foundOf (a .found)) (onLeft (secondWalk (reply (a .sheet .now)) (a .surface) (a .chain) (take (a .stem) (a .word .now)) (a .first)) l)) (left w))
+
 second-rows-requires : tie.Need-second-rows-requires
 second-rows-requires c κs =
-    let a = start (at-strip (c .before)) .pre in
-    (a .0, inside (from-rest (c .before)), a .1, a .3, a .4)
+    let w = c .before .before .before .before in
+    let a = start (at-strip w) .pre in
+    (a .0, inside (from-rest w), a .1, a .3, a .4)
 
-returns-3 : tie.Need-returns-3
-returns-3 c =
-    let w = c .before .before in
+returns-4 : tie.Need-returns-4
+returns-4 c =
+    let e = c .before .before .before .before in
+    let w = e .before in
     let a = start (at-strip w) .args in
     second-some (reply (a .sheet .now)) (a .surface) (a .chain) (a .word .now) (take (a .stem) (a .word .now)) (a .first) (between (a .word .now) (from-rest w .rest .given .0 .0) (a .stem)) _ _ (own w) _
-    (sym (w .before .has-supported-progressive-form .ensures) ∙ c .before .if1 .left) (c .second-rows .ensures)
+    (sym (w .before .has-supported-progressive-form .ensures) ∙ e .if1 .left) (c .second-rows .ensures)
     ∙ sym (ap (λ (l : List (List ℕ)). plusAll (a .word .now) (foundOf (a .found)) (onLeft (secondWalk (reply (a .sheet .now)) (a .surface) (a .chain) (take (a .stem) (a .word .now)) (a .first)) l)) (left w))
 
 pub first-row-spec : {M : Type 1} → statement M
 first-row-spec =
     tie.close
-    (tie.spec row-requires slice-aggregate-prefix-rest prefix-rest-requires enum-told enum-known-rest sub-has-supported-progressive-form part-has-supported-progressive-form-start part-has-supported-progressive-form-end has-supported-progressive-form-requires with-root-requires returns second-rows-requires returns-2 returns-3)
+    (tie.spec row-requires slice-aggregate-prefix-rest prefix-rest-requires enum-told enum-known-rest sub-has-supported-progressive-form part-has-supported-progressive-form-start part-has-supported-progressive-form-end has-supported-progressive-form-requires with-root-requires returns sub-may-begin part-may-begin-start part-may-begin-end may-begin-requires returns-2 second-rows-requires returns-3 returns-4)
