@@ -1,12 +1,18 @@
 -- What the code knows of a root: its support as a record. Assumes nothing.
-use Prim.Native.Nat.{ℕ, _+_, _*_}
-use lib.Dec.{eqb, ltb}
+use Prim.Native.Nat.{ℕ, _+_, _-_, _*_}
+use lib.Dec.{eqb, leb, ltb}
 use mathlib.Core.Bool.{Bool, not, _&&_, _||_}
 use mathlib.Core.List.{List}
 use Rattle.sheet.specs.Replies.{Ask, lettersBy}
+use Rattle.sheet.specs.declared.letters.Letters.{Letters}
+use Rattle.lookup.specs.declared.begins.Range.{Range}
 use Rattle.progressive.specs.Progressive.{isProgressive}
 use Rattle.paths.specs.Support.{hasSibling, points}
 use Rattle.analysis.specs.declared.support.Support.{Support}
+
+-- of the lines whose names begin with a root there is one, and the root has letters: that line is the root's own
+abbrev pub isAlone : Range → Letters → Bool
+isAlone range letters = leb (range .hi - range .lo) 1 && (letters .word || letters .head)
 
 abbrev pub supportOf : Ask → List ℕ → Support
 supportOf ask root = record {

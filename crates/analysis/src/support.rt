@@ -3,6 +3,7 @@ use lookup::answers::letters_in;
 use lookup::begins::Range;
 use lookup::begins::range_of;
 use lookup::starts::Start;
+use sheet::letters::Letters;
 use tables::row;
 ghost use mathlib.Core.Path.{_≡_};
 ghost use mathlib.Core.List.{_++_};
@@ -12,7 +13,7 @@ ghost use Rattle.sheet.specs.Replies.{Indexed, reply};
 ghost use Rattle.lookup.specs.Begins.{Begun};
 ghost use Rattle.progressive.specs.Progressive.{isProgressive};
 ghost use Rattle.paths.specs.Support.{isKnown, hasSibling, points};
-ghost use Rattle.analysis.specs.Supports.{supportOf, scoreFrom, supports};
+ghost use Rattle.analysis.specs.Supports.{isAlone, supportOf, scoreFrom, supports};
 
 // What the sheet says of a root: known by w, by h, an appended form known, a supported progressive form.
 pub struct Support {
@@ -98,8 +99,22 @@ pub(crate) fn is_supported(s: Support, len: usize) -> bool
     s.progressive
 }
 
+// Whether the one line of the range is that of the root itself, whose letters these are. Then no longer name begins with the root.
+fn is_alone(range: Range, letters: Letters) -> bool
+    requires { ⌜ range .lo ≤ range .hi ⌝ }
+    ensures { λ r. ⌜ r ≡ isAlone range letters ⌝ }
+{
+    if 1 < range.hi - range.lo {
+        return false;
+    }
+    if letters.word {
+        return true;
+    }
+    letters.head
+}
+
 // What the sheet says of a root; whether it is a supported progressive form is known already. Where no name begins with the root,
-// one search settles all 26 questions.
+// or only its own, one search settles all 26 questions.
 pub(crate) fn support_of(
     sheet: &[u8],
     starts: &[Start],
@@ -121,6 +136,14 @@ pub(crate) fn support_of(
         };
     }
     let letters = letters_in(sheet, starts, range, root, b"");
+    if is_alone(range, letters) {
+        return Support {
+            word: letters.word,
+            head: letters.head,
+            sibling: false,
+            progressive,
+        };
+    }
     let sibling = has_sibling(sheet, starts, range, texts, cuts, root);
     Support {
         word: letters.word,

@@ -1,16 +1,17 @@
 -- Lines whose names begin alike: the order of a line and a head is its order to every name that begins so, and such lines stand
 -- together. The proofs of `begins` cite it. Assumes nothing.
 use mathlib.Core.Path.{_≡_, refl, sym, ap, subst, _∙_}
-use mathlib.Core.Bool.{true}
-use mathlib.Core.List.{List, [], _++_}
+use mathlib.Core.Bool.{Bool, true, false}
+use mathlib.Core.List.{List, [], _∷_, _++_}
 use Prim.Native.Nat.{ℕ, zero, suc, _+_, _-_, _/_, _≤_, _<_}
 use native.Mathlib.Omega.{arith}
-use lib.ListN.{length, take, drop, getD, length-drop, length-take}
+use lib.ListN.{length, take, drop, getD, length-append, length-drop, length-take}
 use lib.Seq.{take-all, drop-drop, getD-drop, getD-take}
-use Rattle.runs.specs.Runs.{cmp}
+use Rattle.runs.specs.Runs.{pick, sameText, cmp}
 use Rattle.runs.specs.declared.Order.{Order}
 use Rattle.runs.specs.declared.Order.the-variants.{Less, Equal, Greater}
-use Rattle.runs.proofs.Ordered.{Stand, stand, andThen, step-less, step-greater, step-same, cmp-refl, cmp-trans, cmp-turned, turned}
+use Rattle.runs.proofs.Ordered.{Stand, stand, andThen, step-less, step-greater, step-same, cmp-refl, cmp-trans, cmp-turned, turned, same-true}
+use Rattle.runs.proofs.Ends.{same-lengths}
 use Rattle.sheet.specs.Forms.{entryOf, isForm, key, keyOf}
 use Rattle.sheet.specs.Lines.{lineAt}
 use Rattle.sheet.specs.Replies.{Reply, reply, Indexed}
@@ -217,6 +218,29 @@ module _ (s : List ℕ) (letter : ℕ) (head : List ℕ) where
       -- where there are none, no such question has a reply
       pub none-begun : r .hi ≤ r .lo → reply s letter (head ++ q) ≡ Reply.unknown
       none-begun h = sym (sought-placed s starts letter (head ++ q) Nothing x (sym (among ∙ among-none (r .lo) (r .hi) h)) .answers)
+
+    -- where there is at most one such line and a question has a reply, no question of another length has one
+    module _ (r : Range) (g : Begun s starts letter head r) (h : r .hi ≤ r .lo + 1) (p q : List ℕ) (d : length p ≡ length q → ⊥) where
+      one-line : (es : List ℕ) → length es ≤ 1 → (placeIn s es (keyOf letter (head ++ p)) ≡ Nothing → ⊥) → placeIn s es (keyOf letter (head ++ q)) ≡ Nothing
+      one-line [] l k = refl
+      one-line (at ∷ b ∷ es) l k = absurd (omega arith)
+      one-line (at ∷ []) l k = by (sameText (key (lineAt s at)) (keyOf letter (head ++ p))) refl
+        where
+          by : (y : Bool) → sameText (key (lineAt s at)) (keyOf letter (head ++ p)) ≡ y → placeIn s (at ∷ []) (keyOf letter (head ++ q)) ≡ Nothing
+          by false e = absurd (k (ap (λ (y : Bool). pick y (At at) Nothing) e))
+          by true e =
+              let f : sameText (key (lineAt s at)) (keyOf letter (head ++ q)) ≡ false =
+              ap (λ (n : List ℕ). sameText n (keyOf letter (head ++ q))) (same-true (key (lineAt s at)) (keyOf letter (head ++ p)) e)
+              ∙ same-lengths (keyOf letter (head ++ p)) (keyOf letter (head ++ q)) (λ z. d (omega (arith, z, length-append head p, length-append head q))) in
+              ap (λ (y : Bool). pick y (At at) Nothing) f
+
+      pub alone-begun : (reply s letter (head ++ p) ≡ Reply.unknown → ⊥) → reply s letter (head ++ q) ≡ Reply.unknown
+      alone-begun k =
+          let es = drop (r .lo) (take (r .hi) starts) in
+          let few : length es ≤ 1 = simp (length-drop, length-take) (omega (arith, g .inside)) in
+          let unplaced : placeIn s es (keyOf letter (head ++ p)) ≡ Nothing → ⊥ =
+          λ e. k (sym (sought-placed s starts letter (head ++ p) Nothing x (sym (among r g p ∙ e)) .answers)) in
+          sym (sought-placed s starts letter (head ++ q) Nothing x (sym (among r g q ∙ one-line es few unplaced)) .answers)
 
 -- the order of a form's line and the head: first by the letter, then by the name
 module _ (s : List ℕ) (at : ℕ) (h : isForm (drop at s) ≡ true) (letter : ℕ) (head : List ℕ) where
