@@ -1,5 +1,4 @@
-//! Links the port's static library: the archive named by YUNTHIREL_ARCHIVE, or
-//! target/staticlib/libexports.a of the repository.
+//! Links the static library: the archive named by YUNTHIREL_ARCHIVE, or target/staticlib/libexports.a of the repository.
 
 use std::path::PathBuf;
 
