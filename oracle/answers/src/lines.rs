@@ -2,7 +2,6 @@
 
 use acceptance::{Refusal, check_count};
 use shabda::{AffixAnalysis, AffixKind, AffixSegment, OriginSource, RootCandidate};
-use std::fmt::Write;
 use varnavinyas_types::Origin;
 
 pub fn refused(refusal: Refusal) -> String {
@@ -17,17 +16,55 @@ pub fn all(word: &str) -> String {
         .concat()
 }
 
+/// The answers one by one. A field is the text of its line or lines, without the last 0A.
+pub struct Each {
+    pub listing: String,
+    pub best_analysis: String,
+    pub has_analysis: String,
+    pub candidates: String,
+    pub best_root: String,
+    pub has_known_root: String,
+    pub decomposition: String,
+    pub progressive: String,
+    pub has_progressive: String,
+    pub origin: String,
+}
+
+/// Each answer for an accepted word under the sheet in force; the one-answer functions are the source's own.
+pub fn each(word: &str) -> Each {
+    let readings = shabda::analyze_affixes(word);
+    let few = check_count(readings.len());
+    let unless_refused = |text: &dyn Fn() -> String| match few {
+        Ok(()) => text(),
+        Err(refusal) => refused(refusal),
+    };
+    let best_analysis = || match shabda::best_analysis(word) {
+        None => "best_analysis none\n".to_string(),
+        Some(reading) => format!("best_analysis {}\n", row(&reading)),
+    };
+    let has_analysis = || format!("has_analysis {}\n", yes_or_no(shabda::has_supported_analysis(word)));
+    let best_root = match shabda::best_root(word) {
+        None => "best_root none\n".to_string(),
+        Some(candidate) => format!("best_root {}\n", candidate_text(&candidate)),
+    };
+    let without_end = |text: String| text.strip_suffix('\n').map(str::to_string).expect("a line ends in 0A");
+    Each {
+        listing: without_end(list(&readings)),
+        best_analysis: without_end(unless_refused(&best_analysis)),
+        has_analysis: without_end(unless_refused(&has_analysis)),
+        candidates: without_end(candidates(&shabda::lookup_root_candidates(word))),
+        best_root: without_end(best_root),
+        has_known_root: format!("has_known_root {}", yes_or_no(shabda::has_known_root(word))),
+        decomposition: without_end(decomposition(word)),
+        progressive: without_end(progressive(word)),
+        has_progressive: without_end(has_progressive(word)),
+        origin: without_end(origin(word)),
+    }
+}
+
 /// Document 01's listing, or `(refused 7)`.
 pub fn listing(word: &str) -> String {
     list(&shabda::analyze_affixes(word))
-}
-
-/// The source's `has_supported_analysis`; the count of its list decides between an answer and 7.
-pub fn has_analysis(word: &str) -> String {
-    if let Err(refusal) = check_count(shabda::analyze_affixes(word).len()) {
-        return refused(refusal);
-    }
-    format!("has_analysis {}\n", if shabda::has_supported_analysis(word) { "yes" } else { "no" })
 }
 
 fn list(readings: &[AffixAnalysis]) -> String {
@@ -35,14 +72,16 @@ fn list(readings: &[AffixAnalysis]) -> String {
         return refused(refusal);
     }
     let mut text = format!("(list {})\n", readings.len());
-    readings.iter().for_each(|reading| push_reading(&mut text, reading));
+    readings.iter().for_each(|reading| {
+        text.push_str(&row(reading));
+        text.push('\n');
+    });
     text
 }
 
-fn push_reading(text: &mut String, reading: &AffixAnalysis) {
+fn row(reading: &AffixAnalysis) -> String {
     let segments: Vec<String> = reading.suffix_segments.iter().map(segment).collect();
-    writeln!(
-        text,
+    format!(
         "(r {} {} ({}) ({}) {})",
         reading.stem,
         reading.root,
@@ -50,7 +89,6 @@ fn push_reading(text: &mut String, reading: &AffixAnalysis) {
         segments.join(" "),
         reading.score
     )
-    .expect("a String takes all that is written");
 }
 
 fn segment(segment: &AffixSegment) -> String {
@@ -75,30 +113,35 @@ fn supported(readings: &[AffixAnalysis]) -> String {
 }
 
 /// The root candidates, and `has_known_root`; that and `best_root` are tested likewise.
-fn roots(candidates: &[RootCandidate]) -> String {
-    let mut text = format!("candidates {}\n", candidates.len());
-    candidates.iter().for_each(|candidate| push_candidate(&mut text, candidate));
-    text.push_str(&format!("known {}\n", yes_or_no(!candidates.is_empty())));
+fn roots(found: &[RootCandidate]) -> String {
+    candidates(found) + &format!("known {}\n", yes_or_no(!found.is_empty()))
+}
+
+fn candidates(found: &[RootCandidate]) -> String {
+    let mut text = format!("candidates {}\n", found.len());
+    found.iter().for_each(|candidate| {
+        text.push_str("candidate ");
+        text.push_str(&candidate_text(candidate));
+        text.push('\n');
+    });
     text
 }
 
-fn push_candidate(text: &mut String, candidate: &RootCandidate) {
+fn candidate_text(candidate: &RootCandidate) -> String {
     let known = match (candidate.known_word, candidate.known_headword) {
         (true, true) => "wh",
         (true, false) => "w",
         (false, true) => "h",
         (false, false) => unreachable!("a candidate is known"),
     };
-    writeln!(
-        text,
-        "candidate {} {known} {} {}{}{}",
+    format!(
+        "{} {known} {} {}{}{}",
         candidate.root,
         tag(candidate.origin),
         candidate.score,
         labels(&candidate.prefixes),
         labels(&candidate.suffixes)
     )
-    .expect("a String takes all that is written");
 }
 
 fn decomposition(word: &str) -> String {
@@ -127,7 +170,7 @@ fn progressive(word: &str) -> String {
 }
 
 /// The source's own yes or no, which is no line of `all`.
-pub fn has_progressive(word: &str) -> String {
+fn has_progressive(word: &str) -> String {
     format!("has_progressive {}\n", yes_or_no(shabda::has_supported_progressive_form(word)))
 }
 
