@@ -42,7 +42,7 @@ pub const QUESTIONS: &[Question] = &[
         oracle: |case| text(&answers::has_analysis(&case.word, &case.sheet)).trim_end().to_string(),
         port: |case| has_analysis(port::has_analysis(&case.word, &case.sheet)),
     },
-    Question { name: "readings", oracle: |case| text(&answers::listing(&case.word, &case.sheet)), port: readings },
+    Question { name: "readings", oracle: |case| text(&answers::listing(&case.word, &case.sheet)), port: listing },
     Question {
         name: "origin",
         oracle: |case| oracle_line(case, "origin "),
@@ -133,11 +133,11 @@ const ROOM: usize = 35_466 + 64;
 
 /// The port's list as text, or its refusal. Buffers are checked byte for byte: past the text and after a refusal they hold what
 /// they held before; one that is a byte too short is refused with 8 and left, and one that just fits is filled.
-fn readings(case: &Case) -> String {
+fn listing(case: &Case) -> String {
     let fill = |at: usize| (at % 251) as u8 ^ 0xA5;
     let old: Vec<u8> = (0..ROOM).map(fill).collect();
     let mut out = old.clone();
-    let code = port::readings(&case.word, &case.sheet, &mut out);
+    let code = port::listing(&case.word, &case.sheet, &mut out);
     if code % 16 != 0 {
         if out != old {
             return format!("refused with {code} and wrote");
@@ -149,11 +149,11 @@ fn readings(case: &Case) -> String {
         return format!("{size} bytes, and more written");
     }
     let mut short = old[..size - 1].to_vec();
-    if port::readings(&case.word, &case.sheet, &mut short) != 8 || short != old[..size - 1] {
+    if port::listing(&case.word, &case.sheet, &mut short) != 8 || short != old[..size - 1] {
         return format!("not 8, or written, in {} bytes", size - 1);
     }
     let mut exact = old[..size].to_vec();
-    if port::readings(&case.word, &case.sheet, &mut exact) != code || exact != out[..size] {
+    if port::listing(&case.word, &case.sheet, &mut exact) != code || exact != out[..size] {
         return format!("not the same in {size} bytes");
     }
     text(&out[..size])
@@ -228,21 +228,28 @@ fn decomposition(case: &Case) -> String {
     format!("decomposition {} {}{}", parts.root, parts.origin, parts.labels)
 }
 
-/// The port's candidates, one call each, written as the oracle does.
+/// The port's candidates, written as the oracle does. A buffer is checked as that of the list is: what is not stored is left, and one
+/// that is a byte too short is refused with 8.
 fn candidates(case: &Case) -> String {
-    let mut none = buffer();
-    let code = port::root(&case.word, &case.sheet, usize::MAX, &mut none);
-    if none != buffer() {
-        return format!("stored without a candidate: {none:?}");
-    }
+    let old = [0xAA; 16 * STORED + 1];
+    let mut out = old;
+    let code = port::candidates(&case.word, &case.sheet, &mut out);
     if code % 16 != 0 {
-        return refusal(code);
+        return if out == old { refusal(code) } else { format!("{} with {out:?}", refusal(code)) };
     }
-    let count = code / 16;
+    let count = (code / 16) as usize;
+    let size = count * STORED;
+    if size >= old.len() || out[size..] != old[size..] {
+        return format!("{count} candidates, and more stored");
+    }
+    if count != 0 {
+        let mut short = old[..size - 1].to_vec();
+        if port::candidates(&case.word, &case.sheet, &mut short) != 8 || short != old[..size - 1] {
+            return format!("not 8, or stored, in {} bytes", size - 1);
+        }
+    }
     let mut lines = vec![format!("candidates {count}")];
-    for k in 0..count as usize {
-        let mut stored = buffer();
-        let again = port::root(&case.word, &case.sheet, k, &mut stored);
+    for stored in out[..size].chunks(STORED) {
         let known = match stored[6] {
             1 => "w",
             2 => "h",
@@ -250,8 +257,8 @@ fn candidates(case: &Case) -> String {
             _ => "none",
         };
         let score = u16::from_le_bytes([stored[7], stored[8]]);
-        let Some(parts) = parts(case, &stored).filter(|_| again == code && stored[STORED] == 0xAA) else {
-            return format!("no candidate {k}: {again} {stored:?}");
+        let Some(parts) = parts(case, stored) else {
+            return format!("no candidate: {stored:?}");
         };
         lines.push(format!("candidate {} {known} {} {score}{}", parts.root, parts.origin, parts.labels));
     }

@@ -21,7 +21,7 @@ mod foreign {
         pub fn yunthirel_has_analysis(word: *const u8, word_len: usize, sheet: *const u8, sheet_len: usize) -> u64;
         /// 16 times the bytes that the list's text has, written at the front of `out`; 7 for more than 64 readings, 8 for
         /// too short a buffer, else the refusal as above, and `out` as it was.
-        pub fn yunthirel_readings(
+        pub fn yunthirel_listing(
             word: *const u8,
             word_len: usize,
             sheet: *const u8,
@@ -42,13 +42,13 @@ mod foreign {
             out: *mut u8,
             out_len: usize,
         ) -> u64;
-        /// The same; else 16 times the number of root candidates, with candidate `k` in `out`.
-        pub fn yunthirel_root(
+        /// 16 times the number of root candidates, stored in `out`, 33 bytes each; 8 for too short a buffer, else the
+        /// refusal as above, and `out` as it was.
+        pub fn yunthirel_candidates(
             word: *const u8,
             word_len: usize,
             sheet: *const u8,
             sheet_len: usize,
-            k: usize,
             out: *mut u8,
             out_len: usize,
         ) -> u64;
@@ -80,10 +80,10 @@ pub fn has_analysis(word: &[u8], sheet: &[u8]) -> u64 {
     unsafe { foreign::yunthirel_has_analysis(word.as_ptr(), word.len(), sheet.as_ptr(), sheet.len()) }
 }
 
-pub fn readings(word: &[u8], sheet: &[u8], out: &mut [u8]) -> u64 {
+pub fn listing(word: &[u8], sheet: &[u8], out: &mut [u8]) -> u64 {
     // SAFETY: as above, and the third slice is lent for writing.
     unsafe {
-        foreign::yunthirel_readings(word.as_ptr(), word.len(), sheet.as_ptr(), sheet.len(), out.as_mut_ptr(), out.len())
+        foreign::yunthirel_listing(word.as_ptr(), word.len(), sheet.as_ptr(), sheet.len(), out.as_mut_ptr(), out.len())
     }
 }
 
@@ -112,10 +112,17 @@ pub fn decompose(word: &[u8], sheet: &[u8], out: &mut [u8]) -> u64 {
     }
 }
 
-/// The same for candidate `k`.
-pub fn root(word: &[u8], sheet: &[u8], k: usize, out: &mut [u8]) -> u64 {
+/// The same for the root candidates.
+pub fn candidates(word: &[u8], sheet: &[u8], out: &mut [u8]) -> u64 {
     // SAFETY: as above.
     unsafe {
-        foreign::yunthirel_root(word.as_ptr(), word.len(), sheet.as_ptr(), sheet.len(), k, out.as_mut_ptr(), out.len())
+        foreign::yunthirel_candidates(
+            word.as_ptr(),
+            word.len(),
+            sheet.as_ptr(),
+            sheet.len(),
+            out.as_mut_ptr(),
+            out.len(),
+        )
     }
 }
