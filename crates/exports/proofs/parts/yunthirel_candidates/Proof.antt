@@ -1,13 +1,13 @@
--- `parts::yunthirel_root` meets its contract. Assumes nothing.
+-- `parts::yunthirel_candidates` meets its contract. Assumes nothing.
 use mathlib.Core.Path.{refl, sym, ap, _∙_}
 use Rattle.sheet.specs.declared.inputs.Inputs.{Inputs}
 use Rattle.roots.specs.Lists.{rowsOf}
-use Rattle.exports.specs.Filled.{rootIf}
+use Rattle.exports.specs.Filled.{candidatesIf}
 use Rattle.exports.proofs.Bounds.{inputs-refused}
-use Rattle.exports.proofs.Put.{root-is, both}
+use Rattle.exports.proofs.Put.{candidates-is, both}
 use borrow.Author.Needs.{needs}
-use Rattle.exports.proofs.parts.yunthirel_root.Statement.{statement}
-use Rattle.exports.proofs.parts.yunthirel_root.Tie as tie
+use Rattle.exports.proofs.parts.yunthirel_candidates.Statement.{statement}
+use Rattle.exports.proofs.parts.yunthirel_candidates.Tie as tie
 
 lookup-root-candidates-requires : tie.Need-lookup-root-candidates-requires
 lookup-root-candidates-requires c κs = search needs
@@ -21,15 +21,15 @@ refusal-code-requires c κs = let d = c .before .before .before .before in let a
 enum-told : tie.Need-enum-told
 enum-told c = search needs
 
-put-root-requires : tie.Need-put-root-requires
-put-root-requires c κs = search needs
+put-roots-requires : tie.Need-put-roots-requires
+put-roots-requires c κs = search needs
 
 returns : tie.Need-returns
 returns c =
     let d = c .before .before .before .before .before in
     let g = d .lookup-root-candidates .ensures in
     let a = c .before .before .before .before .before .before .before .before .before .args in
-    both (ap (λ (i : Inputs). rootIf i (rowsOf (d .lookup-root-candidates .result .roots)) (a .k) (a .out .now)) (sym (c .before .before .inputs .given .1)) ∙ root-is (a .word .now) (a .sheet .now) (a .out .now) (a .k) _ _ (g .said) (g .listed)) (c .refusal-code .ensures, refl)
+    both (ap (λ (i : Inputs). candidatesIf i (rowsOf (d .lookup-root-candidates .result .roots)) (a .out .now)) (sym (c .before .before .inputs .given .1)) ∙ candidates-is (a .word .now) (a .sheet .now) (a .out .now) _ _ (g .said) (g .listed)) (c .refusal-code .ensures, refl)
 
 same-length : tie.Need-same-length
 same-length c = search needs
@@ -39,17 +39,17 @@ returns-2 c =
     let d = c .before .before .before .before .before .before .before in
     let g = d .lookup-root-candidates .ensures in
     let a = c .before .before .before .before .before .before .before .before .before .before .before .args in
-    both (ap (λ (i : Inputs). rootIf i (rowsOf (d .lookup-root-candidates .result .roots)) (a .k) (a .out .now)) (sym (c .before .before .before .before .enum-told .given .1)) ∙ root-is (a .word .now) (a .sheet .now) (a .out .now) (a .k) _ _ (g .said) (g .listed)) (c .before .before .put-root .ensures)
+    both (ap (λ (i : Inputs). candidatesIf i (rowsOf (d .lookup-root-candidates .result .roots)) (a .out .now)) (sym (c .before .before .before .before .enum-told .given .1)) ∙ candidates-is (a .word .now) (a .sheet .now) (a .out .now) _ _ (g .said) (g .listed)) (c .before .before .put-roots .ensures)
 
-pub yunthirel-root-spec : {M : Type 1} → statement M
-yunthirel-root-spec =
+pub yunthirel-candidates-spec : {M : Type 1} → statement M
+yunthirel-candidates-spec =
     tie.close
     (tie.spec
     lookup-root-candidates-requires
     enum-known-inputs
     refusal-code-requires
     enum-told
-    put-root-requires
+    put-roots-requires
     returns
     same-length
     returns-2)
