@@ -2,7 +2,7 @@
 
 mod lines;
 
-pub use lines::Each;
+pub use lines::{Each, best_candidate, best_reading};
 
 use acceptance::{Form, Refusal};
 use varnavinyas_kosha::{KindLine, Sheet, put_in_force};
@@ -16,7 +16,7 @@ pub fn answer(word: &[u8], sheet: &[u8]) -> Vec<u8> {
     text.into_bytes()
 }
 
-/// Each answer by itself for an accepted word and sheet, those of the source's one-answer functions among them.
+/// Each answer by itself for an accepted word and sheet.
 pub fn each(word: &str, forms: &[Form]) -> Each {
     with_sheet(forms, || lines::each(word))
 }

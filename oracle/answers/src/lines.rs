@@ -30,36 +30,38 @@ pub struct Each {
     pub origin: String,
 }
 
-/// Each answer for an accepted word under the sheet in force; the one-answer functions are the source's own.
+/// Each answer for an accepted word under the sheet in force. The source's `best_analysis`, `has_supported_analysis`, `best_root` and
+/// `has_known_root` make the lists once more and are not asked; a test shows that they say what stands here.
 pub fn each(word: &str) -> Each {
     let readings = shabda::analyze_affixes(word);
-    let few = check_count(readings.len());
-    let unless_refused = |text: &dyn Fn() -> String| match few {
-        Ok(()) => text(),
-        Err(refusal) => refused(refusal),
-    };
-    let best_analysis = || match shabda::best_analysis(word) {
-        None => "best_analysis none\n".to_string(),
-        Some(reading) => format!("best_analysis {}\n", row(&reading)),
-    };
-    let has_analysis = || format!("has_analysis {}\n", yes_or_no(shabda::has_supported_analysis(word)));
-    let best_root = match shabda::best_root(word) {
-        None => "best_root none\n".to_string(),
-        Some(candidate) => format!("best_root {}\n", candidate_text(&candidate)),
+    let found = shabda::lookup_root_candidates(word);
+    let [best_analysis, has_analysis] = match check_count(readings.len()) {
+        Ok(()) => [best_reading(readings.first()), format!("has_analysis {}\n", yes_or_no(!readings.is_empty()))],
+        Err(refusal) => [refused(refusal), refused(refusal)],
     };
     let without_end = |text: String| text.strip_suffix('\n').map(str::to_string).expect("a line ends in 0A");
     Each {
         listing: without_end(list(&readings)),
-        best_analysis: without_end(unless_refused(&best_analysis)),
-        has_analysis: without_end(unless_refused(&has_analysis)),
-        candidates: without_end(candidates(&shabda::lookup_root_candidates(word))),
-        best_root: without_end(best_root),
-        has_known_root: format!("has_known_root {}", yes_or_no(shabda::has_known_root(word))),
+        best_analysis: without_end(best_analysis),
+        has_analysis: without_end(has_analysis),
+        candidates: without_end(candidates(&found)),
+        best_root: without_end(best_candidate(found.first())),
+        has_known_root: format!("has_known_root {}", yes_or_no(!found.is_empty())),
         decomposition: without_end(decomposition(word)),
         progressive: without_end(progressive(word)),
         has_progressive: without_end(has_progressive(word)),
         origin: without_end(origin(word)),
     }
+}
+
+/// What `each` says of a word whose best reading is this one.
+pub fn best_reading(reading: Option<&AffixAnalysis>) -> String {
+    format!("best_analysis {}\n", reading.map_or("none".to_string(), row))
+}
+
+/// What `each` says of a word whose best candidate is this one.
+pub fn best_candidate(candidate: Option<&RootCandidate>) -> String {
+    format!("best_root {}\n", candidate.map_or("none".to_string(), candidate_text))
 }
 
 /// Document 01's listing, or `(refused 7)`.

@@ -144,9 +144,18 @@ fn decomposition(functions: &Functions, word: &[u8], sheet: &[u8]) -> String {
 fn progressive(word: &[u8], sheet: &[u8], code: u64) -> String {
     match (code, ProgressiveAnalysis::of_code(word, sheet, code)) {
         (0, _) => texts::progressive(None),
-        (_, Some(found)) => texts::progressive(Some(found)),
+        (_, Some(found)) if is_name(sheet, found.main_lemma) => texts::progressive(Some(found)),
+        (_, Some(_)) => format!("{code:#x}: the lemma is no name of a w line"),
         (_, None) => refused(code),
     }
+}
+
+/// Whether the part of the sheet stands in it as the name of a `w` line.
+fn is_name(sheet: &[u8], part: &str) -> bool {
+    let from = part.as_ptr() as usize - sheet.as_ptr() as usize;
+    let (before, after) = (&sheet[..from], &sheet[from + part.len()..]);
+    let head = before.strip_suffix(b"(w ");
+    head.is_some_and(|head| head.is_empty() || head.ends_with(b"\n")) && after.starts_with(b" ")
 }
 
 /// A refusal has confidence 0.0.

@@ -74,7 +74,7 @@ fn show(parts: &[Part], outcome: &Outcome) {
     }
     let [listed, refused @ ..] = outcome.numbers;
     let numbers: Vec<String> = (1..).zip(refused).map(|(number, count)| format!("{count} with {number}")).collect();
-    println!("readings: {listed} lists; refused {}", numbers.join(", "));
+    println!("{listed} cases have a list; refused are {}", numbers.join(", "));
 }
 
 fn show_case(case: &Case, k: usize) {
