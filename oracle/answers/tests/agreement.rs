@@ -5,7 +5,7 @@ use acceptance::READING_LIMIT;
 #[test]
 fn best_and_yes_or_no_say_what_the_lists_say() {
     let mut asked = 0;
-    for index in 0..8 * cases::round() as u64 {
+    for index in 0..4 * cases::round() as u64 {
         let case = cases::case(11, index);
         let Ok((word, forms)) = acceptance::check(&case.word, &case.sheet) else {
             continue;
@@ -32,5 +32,5 @@ fn best_and_yes_or_no_say_what_the_lists_say() {
             }
         });
     }
-    assert!(asked > 2000);
+    assert!(asked > 1000);
 }

@@ -10,9 +10,9 @@ use std::collections::{BTreeMap, HashMap};
 /// Words, and a lexicon of them: those of the file that can be names, and the roots of `words.rs`.
 pub struct Words {
     words: Vec<Vec<u8>>,
-    letters: HashMap<String, String>,
-    /// The lexicon's names and then names that are made up, enough of them to fill a sheet.
-    names: Vec<String>,
+    lexicon: HashMap<String, String>,
+    /// What fills a sheet: the lexicon's names with their letters, and then names that are made up.
+    filling: Vec<(String, String)>,
     seed: u64,
 }
 
@@ -25,18 +25,24 @@ impl Words {
 
     pub fn of(words: Vec<Vec<u8>>, seed: u64) -> Words {
         let mut random = Random::for_case(seed, 0);
-        let mut letters: HashMap<String, String> =
-            LEXICON.iter().map(|&(name, letters)| (name.to_string(), letters.to_string())).collect();
-        let mut names: Vec<String> = LEXICON.iter().map(|&(name, _)| name.to_string()).collect();
-        let mut given: Vec<String> = words.iter().filter_map(|word| name(word).map(str::to_string)).collect();
-        given.extend((0..MADE_UP).map(|_| made_up(&mut random)));
-        for name in given {
-            if !letters.contains_key(&name) {
-                letters.insert(name.clone(), letters_of(&name, &mut random));
-                names.push(name);
+        let roots = LEXICON.iter().map(|&(name, letters)| (name.to_string(), letters.to_string()));
+        let mut filling: Vec<(String, String)> = roots.collect();
+        let mut lexicon: HashMap<String, String> = filling.iter().cloned().collect();
+        for name in words.iter().filter_map(|word| name(word)) {
+            if !lexicon.contains_key(name) {
+                let letters = letters_of(name, &mut random);
+                lexicon.insert(name.to_string(), letters.clone());
+                filling.push((name.to_string(), letters));
             }
         }
-        Words { words, letters, names, seed }
+        for _ in 0..MADE_UP {
+            let name = made_up(&mut random);
+            if !lexicon.contains_key(&name) {
+                let letters = letters_of(&name, &mut random);
+                filling.push((name, letters));
+            }
+        }
+        Words { words, lexicon, filling, seed }
     }
 
     /// Two cases a word.
@@ -68,7 +74,7 @@ impl Words {
     /// The lexicon's lines for the word's own questions: its runs, alone and with the texts that are appended, and रहनु.
     fn answer<'a>(&'a self, word: &str, lines: &mut BTreeMap<&'a str, &'a str>) {
         let mut put = |name: &str| {
-            if let Some((name, letters)) = self.letters.get_key_value(name) {
+            if let Some((name, letters)) = self.lexicon.get_key_value(name) {
                 lines.insert(name, letters);
             }
         };
@@ -88,18 +94,19 @@ impl Words {
         }
     }
 
-    /// Lines of other names, from a place of the lexicon that is drawn, as far as whole lines go.
+    /// Lines of other names, from a place that is drawn on, as far as whole lines go.
     fn fill<'a>(&'a self, limit: usize, random: &mut Random, lines: &mut BTreeMap<&'a str, &'a str>) {
-        let mut size: usize = lines.iter().map(|(name, letters)| line(name, letters).len()).sum();
-        let from = random.below(self.names.len());
-        for name in self.names[from..].iter().chain(&self.names[..from]) {
-            let letters = &self.letters[name];
-            let more = line(name, letters).len();
-            if size + more <= limit && lines.insert(name, letters).is_none() {
+        let length = |name: &str, letters: &str| "(w  ())\n".len() + name.len() + letters.len();
+        let mut size: usize = lines.iter().map(|(name, letters)| length(name, letters)).sum();
+        let from = random.below(self.filling.len());
+        for (name, letters) in self.filling[from..].iter().chain(&self.filling[..from]) {
+            let more = length(name, letters);
+            if size + more <= limit && !lines.contains_key(name.as_str()) {
+                lines.insert(name, letters);
                 size += more;
             }
             // The shortest line has 10 bytes.
-            if limit - size < 10 {
+            if limit < size + 10 {
                 break;
             }
         }
