@@ -1,11 +1,13 @@
 #!/usr/bin/env python3
-"""Writes the tables of crates/tables from the Rust source, so that code and definitions come from one place.
+"""Writes the tables of crates/tables, and the labels of boundary/, from the Rust source, so that all come from one place.
 
     tools/tables.py [--check] [--source DIR]
 
 Reads tables.rs and origin.rs in docs/src/crates/shabda/src (or DIR) and writes
     crates/tables/src/rows.rt       the constants: each table one run of bytes, with its row starts
     crates/tables/specs/Rows.antt   the same rows as lists
+    boundary/yunthirel/src/labels.rs, boundary/yunthirel_labels.h
+                                    the texts of the rows that the exported functions name by number, for Rust and C
 Rows keep the source's order. --check writes nothing, and exits 1 where a file differs from what would be written.
 """
 import argparse
@@ -17,6 +19,8 @@ ROOT = pathlib.Path(__file__).resolve().parent.parent
 SOURCE = ROOT / "docs/src/crates/shabda/src"
 CODE = ROOT / "crates/tables/src/rows.rt"
 SPECS = ROOT / "crates/tables/specs/Rows.antt"
+LABELS_RUST = ROOT / "boundary/yunthirel/src/labels.rs"
+LABELS_C = ROOT / "boundary/yunthirel_labels.h"
 LETTERS = {"Tatsam": "t", "Tadbhav": "b", "Deshaj": "d", "Aagantuk": "a"}
 
 
@@ -125,6 +129,40 @@ def specs(tables, origins):
     return "\n".join(out) + "\n"
 
 
+# the tables whose rows the exported functions name by number: constant, array of C, what it is, and the lists that it holds
+LABELS = [
+    ("PREFIX_LABELS", "yunthirel_prefix_labels", "PREFIX_FORMS, the labels: the prefix rows of readings, decompositions and candidates", ["prefixLabels"]),
+    ("AFFIXES", "yunthirel_affixes", "PLURAL_MARKERS, CASE_MARKERS and PARTICLES: the segment rows of readings", ["pluralMarkers", "caseMarkers", "particles"]),
+    ("SUFFIXES", "yunthirel_suffixes", "SUFFIXES: the suffix rows of decompositions and candidates", ["suffixes"]),
+]
+
+
+def labels_rust(tables):
+    out = [
+        "//! The texts of the rows that the library names by number. Written by tools/tables.py from the source's tables.rs.",
+        "#![forbid(unsafe_code)]",
+    ]
+    for name, _, what, lists in LABELS:
+        rows = [text for part in lists for text, _ in tables[part]]
+        out += ["", "/// %s." % what]
+        out += ["pub const %s: [&str; %d] = [" % (name, len(rows))] + ['    "%s",' % row for row in rows] + ["];"]
+    return "\n".join(out) + "\n"
+
+
+def labels_c(tables):
+    out = [
+        "/* The texts of the rows that the functions of yunthirel.h name by number, as UTF-8. Written by tools/tables.py from the",
+        " * source's tables.rs. */",
+        "#ifndef YUNTHIREL_LABELS_H",
+        "#define YUNTHIREL_LABELS_H",
+    ]
+    for _, name, what, lists in LABELS:
+        rows = [text for part in lists for text, _ in tables[part]]
+        out += ["", "/* %s. */" % what, "static const char *const %s[%d] = {" % (name, len(rows))]
+        out += ['    "%s",' % row for row in rows] + ["};"]
+    return "\n".join(out + ["", "#endif"]) + "\n"
+
+
 def main():
     parser = argparse.ArgumentParser()
     parser.add_argument("--check", action="store_true")
@@ -132,7 +170,13 @@ def main():
     options = parser.parse_args()
     tables, origins = read(options.source)
     differs = False
-    for path, text in ((CODE, code(tables, origins)), (SPECS, specs(tables, origins))):
+    written = (
+        (CODE, code(tables, origins)),
+        (SPECS, specs(tables, origins)),
+        (LABELS_RUST, labels_rust(tables)),
+        (LABELS_C, labels_c(tables)),
+    )
+    for path, text in written:
         if not options.check:
             path.write_text(text, encoding="utf-8")
         elif not path.exists() or path.read_text(encoding="utf-8") != text:

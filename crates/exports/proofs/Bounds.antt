@@ -44,11 +44,12 @@ use Rattle.analysis.specs.declared.entry.Has.{Has}
 use Rattle.analysis.specs.declared.entry.Has.the-variants as has
 use Rattle.analysis.specs.declared.entry.Said.{Said}
 use Rattle.analysis.specs.declared.entry.Said.the-variants as said
-use Rattle.listing.specs.Texts.{listingRoom}
+use Rattle.listing.specs.Texts.{listingText, listingRoom}
 use Rattle.listing.specs.Placed.{writtenOf}
-use Rattle.listing.specs.declared.Written.{Written}
+use Rattle.listing.specs.Printed.{saidText, readingsText, outcomeBy, outcomeOf}
+use Rattle.listing.specs.declared.entry.Outcome.{Outcome as ListOutcome}
 use Rattle.listing.specs.declared.Written.the-variants.{Bytes, TooShort}
-use Rattle.exports.specs.Codes.{FewBytes}
+use Rattle.exports.specs.Codes.{Small}
 use Rattle.origin.specs.Answers.{decisionIf, decisionAnswer}
 use Rattle.origin.specs.declared.entries.DecisionAnswer.{DecisionAnswer}
 use Rattle.origin.specs.declared.entries.DecisionAnswer.the-variants as decisions
@@ -87,23 +88,23 @@ lemma-short w s no h = omega arith
 lemma-short w s (yes name n) h = name-short s name (placeOf s 0x77 name) h refl
 
 -- what an answer about progressive forms lets be said of word, sheet and faulty line
-abbrev Small : List ℕ → List ℕ → Answer → Type 0
-Small w s (answers.Refused r) = Placed r
-Small w s (answers.Given form) = (length w ≤ wordLimit) × (length s ≤ sheetLimit) × (form .«lemma_len» ≤ 210)
+abbrev SmallForm : List ℕ → List ℕ → Answer → Type 0
+SmallForm w s (answers.Refused r) = Placed r
+SmallForm w s (answers.Given form) = (length w ≤ wordLimit) × (length s ≤ sheetLimit) × (form .«lemma_len» ≤ 210)
 
-answer-small : (w s : List ℕ) → Small w s (answerOf w s)
+answer-small : (w s : List ℕ) → SmallForm w s (answerOf w s)
 unfolding answerOf
 answer-small w s = by (inputsOf w s) refl
   where
-    by : (i : Inputs) → inputsOf w s ≡ i → Small w s (answerIf i w s)
+    by : (i : Inputs) → inputsOf w s ≡ i → SmallForm w s (answerIf i w s)
     by inputs.Accepted e =
         let k = accepted-each w s e in
         (word-short w (k .0), accepted-short s (k .1), lemma-short w s (progressiveOf (reply s) w) (k .1))
     by (inputs.Refused r) e = refused-placed w s r e
 
 -- the same of what the analysis gave, r, which turned out to be a
-pub analyzed-small : (w s : List ℕ) (r a : Answer) → Analyzed w s r → r ≡ a → Small w s a
-analyzed-small w s r a k e = subst (Small w s) (sym (k .settled) ∙ e) (answer-small w s)
+pub analyzed-small : (w s : List ℕ) (r a : Answer) → Analyzed w s r → r ≡ a → SmallForm w s a
+analyzed-small w s r a k e = subst (SmallForm w s) (sym (k .settled) ∙ e) (answer-small w s)
 
 -- the places of a form that was given
 pub form-small : (w s : List ℕ) (r : Answer) (f : Progressive) → Analyzed w s r → r ≡ answers.Given f →
@@ -180,13 +181,22 @@ said-placed w s = by (inputsOf w s) refl (collected w s)
 pub said-small : (w s : List ℕ) (d x : Said) → d ≡ saidOf w s → d ≡ x → PlacedSaid w x
 said-small w s d x e f = subst (PlacedSaid w) (sym e ∙ f) (said-placed w s)
 
--- a text that is written has no more bytes than the longest list
-pub written-small : (text out : List ℕ) (r : Written) → r ≡ writtenOf text out → length text ≤ listingRoom → FewBytes r
-written-small text out r e h = subst FewBytes (sym e) (by (leb (length text) (length out)))
+-- the same of what writing the list as a text gave: its text has no more bytes than the longest list
+outcome-placed : (w s out : List ℕ) → length (readingsText w s) ≤ listingRoom → Small (outcomeOf w s out)
+unfolding outcomeOf readingsText
+outcome-placed w s out h = by (saidOf w s) (said-placed w s) h
   where
-    by : (b : Bool) → FewBytes (pick b (Bytes (length text)) TooShort)
-    by true = h
-    by false = tt
+    by : (x : Said) → PlacedSaid w x → length (saidText w x (rowsGiven w s)) ≤ listingRoom → Small (outcomeBy x (writtenOf (listingText w (rowsGiven w s)) out))
+    by said.Listed p n = to (leb (length (listingText w (rowsGiven w s))) (length out)) n
+      where
+        to : (b : Bool) → length (listingText w (rowsGiven w s)) ≤ listingRoom → Small (outcomeBy said.Listed (pick b (Bytes (length (listingText w (rowsGiven w s)))) TooShort))
+        to true n = n
+        to false n = tt
+    by (said.Refused r) p n = p
+    by said.TooMany p n = tt
+
+pub outcome-small : (w s out : List ℕ) (r : ListOutcome) → r ≡ outcomeOf w s out → length (readingsText w s) ≤ listingRoom → Small r
+outcome-small w s out r e h = subst Small (sym e) (outcome-placed w s out h)
 
 -- what is said of word and sheet, i, turned out to be the refusal r
 pub inputs-refused : (w s : List ℕ) (i : Inputs) (r : Refusal) → i ≡ inputsOf w s → i ≡ inputs.Refused r → Placed r

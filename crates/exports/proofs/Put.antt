@@ -1,10 +1,9 @@
--- Laws of what is stored in a lent buffer. The proofs of the functions of `parts` cite these. Assumes nothing.
+-- Laws of what is stored in a lent buffer. The proofs of the functions of `parts` and `rows` cite these. Assumes nothing.
 use Prim.Native.Nat.{ℕ, _+_, _*_, _/_, _%_, _<_, _≤_}
 use native.Mathlib.Omega.{arith}
 use mathlib.Core.Path.{_≡_, refl, sym, ap, _∙_}
 use mathlib.Core.List.{List, [], _∷_, _++_}
-use lib.ListN.{length, take, drop, getD}
-use lib.Seq.{length-take-le, getD-take}
+use lib.ListN.{length, drop, getD}
 use borrow.Author.Tests.{lt-ltb, le-ltb}
 use Rattle.tables.specs.declared.origins.Origin.{Origin}
 use Rattle.sheet.specs.Inputs.{inputsOf}
@@ -13,12 +12,14 @@ use Rattle.sheet.specs.declared.inputs.Inputs.the-variants as inputs
 use Rattle.decomposition.specs.Answers.{morphemeIf, morphemeAnswer}
 use Rattle.decomposition.specs.declared.Morpheme.{Morpheme}
 use Rattle.decomposition.specs.declared.entries.MorphemeAnswer.{MorphemeAnswer}
-use Rattle.roots.specs.Lists.{rowsOf, noCandidate}
+use Rattle.ranking.specs.declared.Reading.{Reading}
+use Rattle.analysis.specs.declared.entry.Said.{Said}
+use Rattle.analysis.specs.Answers.{saidOf, rowsGiven}
 use Rattle.roots.specs.Answers.{rootsFor}
 use Rattle.roots.specs.declared.RootCandidate.{RootCandidate}
-use Rattle.roots.specs.declared.Roots.{Roots}
 use Rattle.exports.specs.Codes.{bit, originNumber}
-use Rattle.exports.specs.Filled.{partsBytes, morphemeBytes, candidateBytes, Filled, stored, decomposeIf, decomposeFilled, rowFilled, rootIf, rootFilled}
+use Rattle.exports.specs.Rows.{Filled, kindNumber, noSegment, readingBytes, readingsIf, readingsFilled}
+use Rattle.exports.specs.Filled.{partsBytes, morphemeBytes, candidateBytes, stored, decomposeIf, decomposeFilled, candidatesIf, candidatesFilled}
 
 pub candidate-bytes : (c : RootCandidate) {o x y : ℕ} → o ≡ originNumber (c .origin) → x ≡ bit (c .«known_word») → y ≡ bit (c .«known_headword»)
     → partsBytes (c .parts) o (x + 2 * y) (c .score % 256) (c .score / 256) ≡ candidateBytes c
@@ -27,6 +28,14 @@ candidate-bytes c p q r = rw (p, q, r)
 pub morpheme-bytes : (m : Morpheme) {o : ℕ} → o ≡ originNumber (m .origin) → partsBytes (m .parts) o 0 0 0 ≡ morphemeBytes m
 morpheme-bytes m p = rw p
 
+pub reading-bytes : (r : Reading) {a b c d e f j k l m : ℕ} → a ≡ r .stem % 256 → b ≡ r .stem / 256 → c ≡ r .root % 256 → d ≡ r .root / 256
+    → e ≡ r .score % 256 → f ≡ r .score / 256 → j ≡ kindNumber (getD (r .segments) 0 noSegment .kind) → k ≡ kindNumber (getD (r .segments) 1 noSegment .kind)
+    → l ≡ kindNumber (getD (r .segments) 2 noSegment .kind) → m ≡ kindNumber (getD (r .segments) 3 noSegment .kind)
+    → a ∷ b ∷ c ∷ d ∷ e ∷ f ∷ getD (r .prefixes) 0 0 ∷ getD (r .prefixes) 1 0 ∷ getD (r .segments) 0 noSegment .label ∷ j
+    ∷ getD (r .segments) 1 noSegment .label ∷ k ∷ getD (r .segments) 2 noSegment .label ∷ l ∷ getD (r .segments) 3 noSegment .label ∷ m
+    ∷ r .«prefix_count» ∷ r .«suffix_count» ∷ [] ≡ readingBytes r
+reading-bytes r p q s t u v w x y z = rw (p, q, s, t, u, v, w, x, y, z)
+
 -- a buffer that is too short, and one that is long enough
 module _ (code : ℕ) (bytes out : List ℕ) where
   pub stored-short : length out < 33 → (8 ≡ stored code bytes out .code) × (out ≡ stored code bytes out .buffer)
@@ -34,34 +43,6 @@ module _ (code : ℕ) (bytes out : List ℕ) where
 
   pub stored-long : (later : List ℕ) → 33 ≤ length out → later ≡ bytes ++ drop 33 out → (code ≡ stored code bytes out .code) × (later ≡ stored code bytes out .buffer)
   stored-long later h e = rw (le-ltb (length out) 33 h) (refl, e)
-
--- row k of a list
-module _ (l : Roots) (k : ℕ) (out : List ℕ) (n : length (l .rows) ≡ 16) (few : l .count ≤ 16) where
-  counted : length (rowsOf l) ≡ l .count
-  counted = length-take-le (l .count) (l .rows) (omega arith)
-
-  pub row-none : l .count ≤ k → (16 * l .count ≡ rowFilled (rowsOf l) k out .code) × (out ≡ rowFilled (rowsOf l) k out .buffer)
-  row-none h =
-      let m = counted in
-      let b : length (rowsOf l) ≤ k = omega arith in
-      rw (le-ltb k (length (rowsOf l)) b, counted) (refl, refl)
-
-  module _ (h : k < l .count) where
-    abbrev here : Filled
-    here = stored (16 * l .count) (candidateBytes (getD (l .rows) k noCandidate)) out
-
-    row-here : rowFilled (rowsOf l) k out ≡ here
-    row-here =
-        let m = counted in
-        let b : k < length (rowsOf l) = omega arith in
-        rw (lt-ltb k (length (rowsOf l)) b, counted, getD-take (l .count) (l .rows) k noCandidate h)
-
-    pub row-short : length out < 33 → (8 ≡ rowFilled (rowsOf l) k out .code) × (out ≡ rowFilled (rowsOf l) k out .buffer)
-    row-short s = rw row-here (stored-short (16 * l .count) (candidateBytes (getD (l .rows) k noCandidate)) out s)
-
-    pub row-long : (later : List ℕ) → 33 ≤ length out → later ≡ candidateBytes (getD (l .rows) k noCandidate) ++ drop 33 out
-        → (16 * l .count ≡ rowFilled (rowsOf l) k out .code) × (later ≡ rowFilled (rowsOf l) k out .buffer)
-    row-long later s e = rw row-here (stored-long (16 * l .count) (candidateBytes (getD (l .rows) k noCandidate)) out later s e)
 
 -- what an answer about decomposition says of word and sheet
 pub answer-inputs : (w s : List ℕ) (a : MorphemeAnswer) → a ≡ morphemeAnswer w s → a .inputs ≡ inputsOf w s
@@ -72,14 +53,18 @@ answer-inputs w s a e = ap (λ (x : MorphemeAnswer). x .inputs) e ∙ by (inputs
     by inputs.Accepted = refl
     by (inputs.Refused r) = refl
 
--- what the two entries do, by what is said of word and sheet
+-- what the entries do, by what is said of word and sheet
 pub decompose-is : (w s out : List ℕ) (a : MorphemeAnswer) → a ≡ morphemeAnswer w s → decomposeIf (a .inputs) (a .morpheme) out ≡ decomposeFilled w s out
 unfolding decomposeFilled
 decompose-is w s out a e = ap (λ (x : MorphemeAnswer). decomposeIf (x .inputs) (x .morpheme) out) e
 
-pub root-is : (w s out : List ℕ) (k : ℕ) (i : Inputs) (rows : List RootCandidate) → i ≡ inputsOf w s → rows ≡ rootsFor w s → rootIf i rows k out ≡ rootFilled w s k out
-unfolding rootFilled
-root-is w s out k i rows e q = ap (λ (x : Inputs). rootIf x rows k out) e ∙ ap (λ (x : List RootCandidate). rootIf (inputsOf w s) x k out) q
+pub candidates-is : (w s out : List ℕ) (i : Inputs) (rows : List RootCandidate) → i ≡ inputsOf w s → rows ≡ rootsFor w s → candidatesIf i rows out ≡ candidatesFilled w s out
+unfolding candidatesFilled
+candidates-is w s out i rows e q = ap (λ (x : Inputs). candidatesIf x rows out) e ∙ ap (λ (x : List RootCandidate). candidatesIf (inputsOf w s) x out) q
+
+pub readings-is : (w s out : List ℕ) (x : Said) (rows : List Reading) → x ≡ saidOf w s → rows ≡ rowsGiven w s → readingsIf x rows out ≡ readingsFilled w s out
+unfolding readingsFilled
+readings-is w s out x rows e q = ap (λ (y : Said). readingsIf y rows out) e ∙ ap (λ (l : List Reading). readingsIf (saidOf w s) l out) q
 
 -- both parts of what is stated of an answer, from one equation
 pub both : {x y : Filled} {code : ℕ} {later : List ℕ} → x ≡ y → (code ≡ x .code) × (later ≡ x .buffer) → (code ≡ y .code) × (later ≡ y .buffer)

@@ -7,7 +7,7 @@ use lib.Ieee.{Float}
 use Rattle.runs.specs.Runs.{pick}
 use Rattle.tables.specs.declared.origins.Origin.{Origin}
 use Rattle.tables.specs.declared.origins.Origin.the-variants.{Tatsam, Tadbhav, Deshaj, Aagantuk}
-use Rattle.sheet.specs.Inputs.{numbersOf, sheetNumbers}
+use Rattle.sheet.specs.Inputs.{numbersOf, sheetNumbers, Placed}
 use Rattle.sheet.specs.declared.check.SheetCheck.{SheetCheck}
 use Rattle.sheet.specs.declared.inputs.Refusal.{Refusal}
 use Rattle.progressive.specs.declared.find.Progressive.{Progressive}
@@ -16,12 +16,10 @@ use Rattle.progressive.specs.declared.entry.Answer.the-variants as answers
 use Rattle.progressive.specs.declared.entry.Supported.{Supported}
 use Rattle.progressive.specs.declared.entry.Supported.the-variants as supports
 use Rattle.listing.specs.Texts.{listingRoom}
-use Rattle.listing.specs.Placed.{writtenOf, filled, writtenNumber}
-use Rattle.listing.specs.declared.Written.{Written}
-use Rattle.listing.specs.declared.Written.the-variants.{Bytes, TooShort}
-use Rattle.analysis.specs.declared.entry.Said.{Said}
-use Rattle.analysis.specs.declared.entry.Said.the-variants as said
-use Rattle.analysis.specs.Answers.{saidNumbers, hasNumbers}
+use Rattle.listing.specs.Printed.{outcomeNumbers}
+use Rattle.listing.specs.declared.entry.Outcome.{Outcome}
+use Rattle.listing.specs.declared.entry.Outcome.the-variants as outcomes
+use Rattle.analysis.specs.Answers.{hasNumbers}
 use Rattle.analysis.specs.declared.entry.Has.{Has}
 use Rattle.analysis.specs.declared.entry.Has.the-variants as has
 use Rattle.origin.specs.Decisions.{none}
@@ -70,26 +68,19 @@ hasCode (has.Given b) = pick b 15 0
 hasCode (has.Refused r) = refusalCode r
 hasCode has.TooMany = coded (hasNumbers has.TooMany)
 
--- a text that was written, by its bytes, or that the buffer is shorter
-abbrev pub writtenCode : Written → ℕ
-writtenCode (Bytes n) = 16 * n
-writtenCode TooShort = writtenNumber TooShort
+-- a list that was written as a text, by the bytes of the text; else the number of why it is not
+abbrev pub outcomeCode : Outcome → ℕ
+outcomeCode (outcomes.Bytes n) = 16 * n
+outcomeCode (outcomes.Refused r) = coded (outcomeNumbers (outcomes.Refused r))
+outcomeCode outcomes.TooMany = coded (outcomeNumbers outcomes.TooMany)
+outcomeCode outcomes.TooShort = coded (outcomeNumbers outcomes.TooShort)
 
--- so few bytes that the code fits
-abbrev pub FewBytes : Written → Type 0
-FewBytes (Bytes n) = n ≤ listingRoom
-FewBytes TooShort = Unit {0}
-
--- the list of readings as a text, or why it is not written; and what the buffer holds then
-abbrev pub readingsCode : Said → List ℕ → List ℕ → ℕ
-readingsCode said.Listed text out = writtenCode (writtenOf text out)
-readingsCode (said.Refused r) text out = refusalCode r
-readingsCode said.TooMany text out = coded (saidNumbers said.TooMany)
-
-abbrev pub readingsLeft : Said → List ℕ → List ℕ → List ℕ
-readingsLeft said.Listed text out = filled text out
-readingsLeft (said.Refused r) text out = out
-readingsLeft said.TooMany text out = out
+-- so few bytes, or so near a faulty line, that the code fits
+abbrev pub Small : Outcome → Type 0
+Small (outcomes.Bytes n) = n ≤ listingRoom
+Small (outcomes.Refused r) = Placed r
+Small outcomes.TooMany = Unit {0}
+Small outcomes.TooShort = Unit {0}
 
 abbrev pub originNumber : Origin → ℕ
 originNumber Tatsam = 0

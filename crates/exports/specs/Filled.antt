@@ -14,14 +14,9 @@ use Rattle.decomposition.specs.declared.Morpheme.{Morpheme}
 use Rattle.decomposition.specs.declared.entries.MorphemeAnswer.{MorphemeAnswer}
 use Rattle.decomposition.specs.Answers.{morphemeAnswer}
 use Rattle.roots.specs.declared.RootCandidate.{RootCandidate}
-use Rattle.roots.specs.Lists.{noCandidate}
 use Rattle.roots.specs.Answers.{rootsFor}
 use Rattle.exports.specs.Codes.{bit, refusalCode, originNumber}
-
--- the n numbers of xs from the i-th on
-abbrev pub cells : ℕ → ℕ → List ℕ → List ℕ
-cells zero i xs = []
-cells (suc n) i xs = getD xs i 0 ∷ cells n (suc i) xs
+use Rattle.exports.specs.Rows.{cells, Filled, rowsFilled}
 
 -- 33 bytes: places of the root, prefix row and count, suffix count, four bytes more, then the 24 places for suffix rows
 abbrev pub partsBytes : Parts → ℕ → ℕ → ℕ → ℕ → List ℕ
@@ -38,11 +33,6 @@ morphemeBytes m = partsBytes (m .parts) (originNumber (m .origin)) 0 0 0
 abbrev pub candidateBytes : RootCandidate → List ℕ
 candidateBytes c = partsBytes (c .parts) (originNumber (c .origin)) (bit (c .«known_word») + 2 * bit (c .«known_headword»)) (c .score % 256) (c .score / 256)
 
--- what is handed back, and the buffer's later contents
-pub record Filled : Type 0 where
-  pub code : ℕ
-  pub buffer : List ℕ
-
 -- the bytes at the front of the buffer, or 8
 abbrev pub stored : ℕ → List ℕ → List ℕ → Filled
 stored code bytes out =
@@ -56,15 +46,13 @@ decomposeIf (inputs.Refused r) m out = record { code = refusalCode r; buffer = o
 unfoldable pub decomposeFilled : List ℕ → List ℕ → List ℕ → Filled
 decomposeFilled word sheet out = decomposeIf (morphemeAnswer word sheet .inputs) (morphemeAnswer word sheet .morpheme) out
 
--- row k of the list, where there is one; 16 times the number of rows is handed back
-abbrev pub rowFilled : List RootCandidate → ℕ → List ℕ → Filled
-rowFilled rows k out =
-    pick (ltb k (length rows)) (stored (16 * length rows) (candidateBytes (getD rows k noCandidate)) out) (record { code = 16 * length rows; buffer = out })
+abbrev pub candidateWidth : ℕ
+candidateWidth = filledBytes
 
-abbrev pub rootIf : Inputs → List RootCandidate → ℕ → List ℕ → Filled
-rootIf inputs.Accepted rows k out = rowFilled rows k out
-rootIf (inputs.Refused r) rows k out = record { code = refusalCode r; buffer = out }
+abbrev pub candidatesIf : Inputs → List RootCandidate → List ℕ → Filled
+candidatesIf inputs.Accepted rows out = rowsFilled candidateWidth candidateBytes rows out
+candidatesIf (inputs.Refused r) rows out = record { code = refusalCode r; buffer = out }
 
--- what `yunthirel_root` does
-unfoldable pub rootFilled : List ℕ → List ℕ → ℕ → List ℕ → Filled
-rootFilled word sheet k out = rootIf (inputsOf word sheet) (rootsFor word sheet) k out
+-- what `yunthirel_candidates` does
+unfoldable pub candidatesFilled : List ℕ → List ℕ → List ℕ → Filled
+candidatesFilled word sheet out = candidatesIf (inputsOf word sheet) (rootsFor word sheet) out

@@ -1,10 +1,8 @@
 // The static library's functions: what Rust and C call. They take numbers and slices of numbers alone.
 use analysis::entry::Has;
-use analysis::entry::Said;
-use analysis::entry::analyze_affixes;
 use analysis::entry::has_supported_analysis;
-use listing::Written;
-use listing::write_listing;
+use listing::entry::Outcome;
+use listing::entry::write_readings;
 use origin::OriginDecision;
 use origin::OriginSource;
 use origin::entries::DecisionAnswer;
@@ -27,11 +25,12 @@ ghost use Rattle.sheet.specs.Lines.{sheetCheck, sheetLimit};
 ghost use Rattle.sheet.specs.Inputs.{Placed};
 ghost use Rattle.progressive.specs.Answers.{answerOf, supportedOf};
 ghost use Rattle.origin.specs.Answers.{decisionAnswer};
-ghost use Rattle.analysis.specs.Answers.{saidOf, rowsGiven, hasOf};
-ghost use Rattle.listing.specs.Texts.{listingText};
-ghost use Rattle.exports.specs.Codes.{sheetCode, refusalCode, formCode, progressiveCode, supportedCode, hasCode, FewBytes, writtenCode, readingsCode, readingsLeft, originNumber, sourceNumber, originCode, confidenceOf};
+ghost use Rattle.analysis.specs.Answers.{hasOf};
+ghost use Rattle.listing.specs.Printed.{outcomeOf, leftOf};
+ghost use Rattle.exports.specs.Codes.{sheetCode, refusalCode, formCode, progressiveCode, supportedCode, hasCode, Small, outcomeCode, originNumber, sourceNumber, originCode, confidenceOf};
 
 pub mod parts;
+pub mod rows;
 
 // 0 for a word that is accepted, else document 01's number: 1, 2 or 3.
 #[no_mangle]
@@ -142,14 +141,17 @@ pub extern "C" fn yunthirel_has_analysis(word: &[u8], sheet: &[u8]) -> u64
     }
 }
 
-// What writing a text gave, as a number: 16 times its bytes, or 8 for too short a buffer.
-fn written_code(written: Written) -> u64
-    requires { ⌜ FewBytes written ⌝ }
-    ensures { λ r. ⌜ r ≡ writtenCode written ⌝ }
+// What writing the list gave, as a number: 16 times the bytes of its text, 8 for too short a buffer, 7 for more than 64 readings, else
+// the refusal, as `refusal_code` gives it.
+fn outcome_code(outcome: Outcome) -> u64
+    requires { ⌜ Small outcome ⌝ }
+    ensures { λ r. ⌜ r ≡ outcomeCode outcome ⌝ }
 {
-    match written {
-        Written::Bytes(n) => 16 * (n as u64),
-        Written::TooShort => 8,
+    match outcome {
+        Outcome::Bytes(n) => 16 * (n as u64),
+        Outcome::Refused(refusal) => refusal_code(refusal),
+        Outcome::TooMany => 7,
+        Outcome::TooShort => 8,
     }
 }
 
@@ -157,18 +159,11 @@ fn written_code(written: Written) -> u64
 // bytes. Where nothing is written, and `out` is as it was: 8 for too short a buffer, 7 for more than 64 readings, else the refusal, as
 // `refusal_code` gives it. 35,466 bytes are always enough.
 #[no_mangle]
-pub extern "C" fn yunthirel_readings(word: &[u8], sheet: &[u8], out: &mut [u8]) -> u64
-    ensures { λ r. ⌜ (r ≡ readingsCode (saidOf (now (word .entry)) (now (sheet .entry))) (listingText (now (word .entry)) (rowsGiven (now (word .entry)) (now (sheet .entry)))) (now (out .entry)))
-        × (now (out .exit) ≡ readingsLeft (saidOf (now (word .entry)) (now (sheet .entry))) (listingText (now (word .entry)) (rowsGiven (now (word .entry)) (now (sheet .entry)))) (now (out .entry))) ⌝ }
+pub extern "C" fn yunthirel_listing(word: &[u8], sheet: &[u8], out: &mut [u8]) -> u64
+    ensures { λ r. ⌜ (r ≡ outcomeCode (outcomeOf (now (word .entry)) (now (sheet .entry)) (now (out .entry))))
+        × (now (out .exit) ≡ leftOf (now (word .entry)) (now (sheet .entry)) (now (out .entry))) ⌝ }
 {
-    let analysis = analyze_affixes(word, sheet);
-    let said = analysis.said;
-    let list = analysis.list;
-    match said {
-        Said::Refused(refusal) => refusal_code(refusal),
-        Said::TooMany => 7,
-        Said::Listed => written_code(write_listing(word, list, out)),
-    }
+    outcome_code(write_readings(word, sheet, out))
 }
 
 fn origin_number(origin: Origin) -> u64

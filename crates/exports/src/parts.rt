@@ -13,10 +13,11 @@ use tables::origins::Origin;
 ghost use mathlib.Core.Path.{_≡_};
 ghost use mathlib.Core.List.{_++_};
 ghost use Prim.Native.Nat.{_+_, _*_, _≤_, _<_};
-ghost use lib.ListN.{length, drop};
+ghost use lib.ListN.{length, take, drop};
 ghost use Rattle.roots.specs.Lists.{rowsOf, rootLimit};
 ghost use Rattle.exports.specs.Codes.{bit, originNumber};
-ghost use Rattle.exports.specs.Filled.{partsBytes, morphemeBytes, candidateBytes, stored, decomposeFilled, rowFilled, rootFilled};
+ghost use Rattle.exports.specs.Filled.{partsBytes, morphemeBytes, candidateBytes, stored, decomposeFilled, candidateWidth, candidatesFilled};
+ghost use Rattle.exports.specs.Rows.{each, rowsFilled};
 
 // Parts and four bytes more, at the front of the buffer.
 fn put_parts(p: Parts, a: u8, b: u8, c: u8, d: u8, out: &mut [u8])
@@ -91,37 +92,48 @@ fn put_candidate(c: RootCandidate, out: &mut [u8])
     put_parts(p, origin, known, low, high, out);
 }
 
-// Row k of the list, where it has one, at the front of the buffer; 8 where the buffer is too short, else 16 times the number of rows.
-fn put_root(list: Roots, k: usize, out: &mut [u8]) -> u64
-    requires { ⌜ list .count ≤ rootLimit ⌝ }
-    ensures { λ r. ⌜ (r ≡ rowFilled (rowsOf list) k (now (out .entry)) .code) × (now (out .exit) ≡ rowFilled (rowsOf list) k (now (out .entry)) .buffer) ⌝ }
+// The first n candidates of the list one after the other, at the front of the buffer.
+fn put_candidates(list: Roots, n: usize, out: &mut [u8])
+    requires { ⌜ (n ≤ rootLimit) × (33 * n ≤ length (now out)) ⌝ }
+    ensures { λ _. ⌜ now (out .exit) ≡ each candidateBytes (take n (list .rows)) ++ drop (33 * n) (now (out .entry)) ⌝ }
 {
-    let n = list.count;
-    let code = 16 * (n as u64);
-    if n <= k {
-        return code;
+    let mut i: usize = 0;
+    while i < n {
+        let c = list.rows[i];
+        let at = 33 * i;
+        put_candidate(c, &mut out[at..]);
+        i += 1;
     }
-    if out.len() < 33 {
-        return 8;
-    }
-    let c = list.rows[k];
-    put_candidate(c, out);
-    code
 }
 
-// Candidate k of the word's root candidates: stored at the front of the buffer, where there is one. Handed back are the code of a
-// refusal, 8 where there is one and the buffer has less than 33 bytes, or 16 times the number of candidates.
+// The list, at the front of the buffer, and 16 times the number of its rows; 8 where the buffer is too short.
+fn put_roots(list: Roots, out: &mut [u8]) -> u64
+    requires { ⌜ list .count ≤ rootLimit ⌝ }
+    ensures { λ r. ⌜ (r ≡ rowsFilled candidateWidth candidateBytes (rowsOf list) (now (out .entry)) .code)
+        × (now (out .exit) ≡ rowsFilled candidateWidth candidateBytes (rowsOf list) (now (out .entry)) .buffer) ⌝ }
+{
+    let n = list.count;
+    if out.len() < 33 * n {
+        return 8;
+    }
+    put_candidates(list, n, out);
+    16 * (n as u64)
+}
+
+// The word's root candidates in rank order, 33 bytes each, at the front of the buffer, and 16 times their number. Where nothing is
+// stored, and `out` is as it was: 8 for a buffer with less than 33 bytes for each, else the refusal, as `refusal_code` gives it. 528
+// bytes are always enough.
 #[no_mangle]
-pub extern "C" fn yunthirel_root(word: &[u8], sheet: &[u8], k: usize, out: &mut [u8]) -> u64
-    ensures { λ r. ⌜ (r ≡ rootFilled (now (word .entry)) (now (sheet .entry)) k (now (out .entry)) .code)
-        × (now (out .exit) ≡ rootFilled (now (word .entry)) (now (sheet .entry)) k (now (out .entry)) .buffer) ⌝ }
+pub extern "C" fn yunthirel_candidates(word: &[u8], sheet: &[u8], out: &mut [u8]) -> u64
+    ensures { λ r. ⌜ (r ≡ candidatesFilled (now (word .entry)) (now (sheet .entry)) (now (out .entry)) .code)
+        × (now (out .exit) ≡ candidatesFilled (now (word .entry)) (now (sheet .entry)) (now (out .entry)) .buffer) ⌝ }
 {
     let answer = lookup_root_candidates(word, sheet);
     let inputs = answer.inputs;
     let list = answer.roots;
     match inputs {
         Inputs::Refused(refusal) => refusal_code(refusal),
-        Inputs::Accepted => put_root(list, k, out),
+        Inputs::Accepted => put_roots(list, out),
     }
 }
 

@@ -2,6 +2,8 @@
 
 mod lines;
 
+pub use lines::{Each, best_candidate, best_reading};
+
 use acceptance::{Form, Refusal};
 use varnavinyas_kosha::{KindLine, Sheet, put_in_force};
 
@@ -14,28 +16,15 @@ pub fn answer(word: &[u8], sheet: &[u8]) -> Vec<u8> {
     text.into_bytes()
 }
 
+/// Each answer by itself for an accepted word and sheet.
+pub fn each(word: &str, forms: &[Form]) -> Each {
+    with_sheet(forms, || lines::each(word))
+}
+
 /// The listing alone, or the refusal: what the program `readings` prints for them.
 pub fn listing(word: &[u8], sheet: &[u8]) -> Vec<u8> {
     let text = match acceptance::check(word, sheet) {
         Ok((word, forms)) => with_sheet(&forms, || lines::listing(word)),
-        Err(refusal) => lines::refused(refusal),
-    };
-    text.into_bytes()
-}
-
-/// The source's `has_supported_progressive_form` alone, or the refusal.
-pub fn has_progressive(word: &[u8], sheet: &[u8]) -> Vec<u8> {
-    let text = match acceptance::check(word, sheet) {
-        Ok((word, forms)) => with_sheet(&forms, || lines::has_progressive(word)),
-        Err(refusal) => lines::refused(refusal),
-    };
-    text.into_bytes()
-}
-
-/// The source's `has_supported_analysis` alone, or the refusal: 7 where its list has more than 64 readings.
-pub fn has_analysis(word: &[u8], sheet: &[u8]) -> Vec<u8> {
-    let text = match acceptance::check(word, sheet) {
-        Ok((word, forms)) => with_sheet(&forms, || lines::has_analysis(word)),
         Err(refusal) => lines::refused(refusal),
     };
     text.into_bytes()

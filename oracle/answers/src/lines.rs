@@ -2,7 +2,6 @@
 
 use acceptance::{Refusal, check_count};
 use shabda::{AffixAnalysis, AffixKind, AffixSegment, OriginSource, RootCandidate};
-use std::fmt::Write;
 use varnavinyas_types::Origin;
 
 pub fn refused(refusal: Refusal) -> String {
@@ -17,17 +16,57 @@ pub fn all(word: &str) -> String {
         .concat()
 }
 
+/// The answers one by one. A field is the text of its line or lines, without the last 0A.
+pub struct Each {
+    pub listing: String,
+    pub best_analysis: String,
+    pub has_analysis: String,
+    pub candidates: String,
+    pub best_root: String,
+    pub has_known_root: String,
+    pub decomposition: String,
+    pub progressive: String,
+    pub has_progressive: String,
+    pub origin: String,
+}
+
+/// Each answer for an accepted word under the sheet in force. The source's `best_analysis`, `has_supported_analysis`, `best_root` and
+/// `has_known_root` make the lists once more and are not asked; a test shows that they say what stands here.
+pub fn each(word: &str) -> Each {
+    let readings = shabda::analyze_affixes(word);
+    let found = shabda::lookup_root_candidates(word);
+    let [best_analysis, has_analysis] = match check_count(readings.len()) {
+        Ok(()) => [best_reading(readings.first()), format!("has_analysis {}\n", yes_or_no(!readings.is_empty()))],
+        Err(refusal) => [refused(refusal), refused(refusal)],
+    };
+    let without_end = |text: String| text.strip_suffix('\n').map(str::to_string).expect("a line ends in 0A");
+    Each {
+        listing: without_end(list(&readings)),
+        best_analysis: without_end(best_analysis),
+        has_analysis: without_end(has_analysis),
+        candidates: without_end(candidates(&found)),
+        best_root: without_end(best_candidate(found.first())),
+        has_known_root: format!("has_known_root {}", yes_or_no(!found.is_empty())),
+        decomposition: without_end(decomposition(word)),
+        progressive: without_end(progressive(word)),
+        has_progressive: without_end(has_progressive(word)),
+        origin: without_end(origin(word)),
+    }
+}
+
+/// What `each` says of a word whose best reading is this one.
+pub fn best_reading(reading: Option<&AffixAnalysis>) -> String {
+    format!("best_analysis {}\n", reading.map_or("none".to_string(), row))
+}
+
+/// What `each` says of a word whose best candidate is this one.
+pub fn best_candidate(candidate: Option<&RootCandidate>) -> String {
+    format!("best_root {}\n", candidate.map_or("none".to_string(), candidate_text))
+}
+
 /// Document 01's listing, or `(refused 7)`.
 pub fn listing(word: &str) -> String {
     list(&shabda::analyze_affixes(word))
-}
-
-/// The source's `has_supported_analysis`; the count of its list decides between an answer and 7.
-pub fn has_analysis(word: &str) -> String {
-    if let Err(refusal) = check_count(shabda::analyze_affixes(word).len()) {
-        return refused(refusal);
-    }
-    format!("has_analysis {}\n", if shabda::has_supported_analysis(word) { "yes" } else { "no" })
 }
 
 fn list(readings: &[AffixAnalysis]) -> String {
@@ -35,14 +74,16 @@ fn list(readings: &[AffixAnalysis]) -> String {
         return refused(refusal);
     }
     let mut text = format!("(list {})\n", readings.len());
-    readings.iter().for_each(|reading| push_reading(&mut text, reading));
+    readings.iter().for_each(|reading| {
+        text.push_str(&row(reading));
+        text.push('\n');
+    });
     text
 }
 
-fn push_reading(text: &mut String, reading: &AffixAnalysis) {
+fn row(reading: &AffixAnalysis) -> String {
     let segments: Vec<String> = reading.suffix_segments.iter().map(segment).collect();
-    writeln!(
-        text,
+    format!(
         "(r {} {} ({}) ({}) {})",
         reading.stem,
         reading.root,
@@ -50,7 +91,6 @@ fn push_reading(text: &mut String, reading: &AffixAnalysis) {
         segments.join(" "),
         reading.score
     )
-    .expect("a String takes all that is written");
 }
 
 fn segment(segment: &AffixSegment) -> String {
@@ -75,30 +115,35 @@ fn supported(readings: &[AffixAnalysis]) -> String {
 }
 
 /// The root candidates, and `has_known_root`; that and `best_root` are tested likewise.
-fn roots(candidates: &[RootCandidate]) -> String {
-    let mut text = format!("candidates {}\n", candidates.len());
-    candidates.iter().for_each(|candidate| push_candidate(&mut text, candidate));
-    text.push_str(&format!("known {}\n", yes_or_no(!candidates.is_empty())));
+fn roots(found: &[RootCandidate]) -> String {
+    candidates(found) + &format!("known {}\n", yes_or_no(!found.is_empty()))
+}
+
+fn candidates(found: &[RootCandidate]) -> String {
+    let mut text = format!("candidates {}\n", found.len());
+    found.iter().for_each(|candidate| {
+        text.push_str("candidate ");
+        text.push_str(&candidate_text(candidate));
+        text.push('\n');
+    });
     text
 }
 
-fn push_candidate(text: &mut String, candidate: &RootCandidate) {
+fn candidate_text(candidate: &RootCandidate) -> String {
     let known = match (candidate.known_word, candidate.known_headword) {
         (true, true) => "wh",
         (true, false) => "w",
         (false, true) => "h",
         (false, false) => unreachable!("a candidate is known"),
     };
-    writeln!(
-        text,
-        "candidate {} {known} {} {}{}{}",
+    format!(
+        "{} {known} {} {}{}{}",
         candidate.root,
         tag(candidate.origin),
         candidate.score,
         labels(&candidate.prefixes),
         labels(&candidate.suffixes)
     )
-    .expect("a String takes all that is written");
 }
 
 fn decomposition(word: &str) -> String {
@@ -127,7 +172,7 @@ fn progressive(word: &str) -> String {
 }
 
 /// The source's own yes or no, which is no line of `all`.
-pub fn has_progressive(word: &str) -> String {
+fn has_progressive(word: &str) -> String {
     format!("has_progressive {}\n", yes_or_no(shabda::has_supported_progressive_form(word)))
 }
 

@@ -112,6 +112,6 @@ fn a_short_buffer_is_refused_and_left() {
     let sheet = sheet(&[("घर", "w")]);
     let mut out = [0xAA; 32];
     assert_eq!(compare::port::decompose("घर".as_bytes(), &sheet, &mut out), 8);
-    assert_eq!(compare::port::root("घर".as_bytes(), &sheet, 0, &mut out), 8);
+    assert_eq!(compare::port::candidates("घर".as_bytes(), &sheet, &mut out), 8);
     assert_eq!(out, [0xAA; 32]);
 }

@@ -1,4 +1,4 @@
-//! A copy of the workspace and of docs/src below target/slips, where slips are planted.
+//! A copy of the workspace, of docs/src and of the boundary's crate, which a member of it names, below target/slips, where slips are planted.
 
 use crate::slip::Slip;
 use blocks::Case;
@@ -15,12 +15,13 @@ impl Copy {
     pub fn make() -> io::Result<Self> {
         let oracle = Path::new(env!("CARGO_MANIFEST_DIR")).join("..").canonicalize()?;
         let root = oracle.join("target/slips");
-        for part in ["docs", "oracle"] {
+        for part in ["docs", "boundary", "oracle"] {
             if root.join(part).exists() {
                 fs::remove_dir_all(root.join(part))?;
             }
         }
         copy_folder(&oracle.join("../docs/src"), &root.join("docs/src"))?;
+        copy_folder(&oracle.join("../boundary/yunthirel"), &root.join("boundary/yunthirel"))?;
         copy_folder(&oracle, &root.join("oracle"))?;
         Ok(Copy { root })
     }

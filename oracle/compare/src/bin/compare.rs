@@ -1,50 +1,89 @@
 //! Puts the same cases to the port and to the oracle.
 //!
-//!     compare --seed S --count N
+//!     compare --seed S --count N [--words FILE]... [--threads T]
 //!
-//! The cases written out one by one come first, then N of the seed. Prints the count and the
-//! differences; exits 1 if there is any.
+//! The cases written out one by one come first, then N of the seed, then the words of `words.rs` and of each file, one a line,
+//! each with a sheet for its own questions and with a full one. Prints the count and the differences; exits 1 if there is any.
 
 use blocks::Case;
-use compare::{QUESTIONS, options};
-
-/// Differences shown in full; the others are only counted.
-const SHOWN: usize = 20;
+use compare::files::Words;
+use compare::run::{Outcome, Part, SHOWN, part, run};
+use compare::words::WORDS;
+use compare::{Compared, NAMES, options};
+use std::time::Instant;
 
 fn main() {
-    let [seed, count] = options::read("compare", [("--seed", 1), ("--count", 100_000)]);
+    let cores = std::thread::available_parallelism().map_or(1, |cores| cores.get() as u64);
+    let ([seed, count, threads], files) =
+        options::read("compare", [("--seed", 1), ("--count", 100_000), ("--threads", cores)]);
     let written = cases::limits::cases();
-    let all = written.len() as u64 + count;
-    let fixed = written.into_iter().map(|case| ("written out".to_string(), case));
-    let fresh = (0..count).map(|index| {
-        let name = format!("{} of seed {seed}, {}", index, cases::class_of(index).name);
-        (name, cases::case(seed, index))
-    });
+    let own = Words::of(WORDS.iter().map(|word| word.as_bytes().to_vec()).collect(), seed);
+    let lists: Vec<(&str, Words)> = files.iter().map(|path| (path.as_str(), read(path, seed))).collect();
 
-    let mut differences = vec![0; QUESTIONS.len()];
-    for (name, case) in fixed.chain(fresh) {
-        for (question, found) in QUESTIONS.iter().zip(&mut differences) {
-            let (oracle, port) = ((question.oracle)(&case), (question.port)(&case));
-            if oracle != port {
-                *found += 1;
-                if *found <= SHOWN {
-                    show(question.name, &name, &case, &oracle, &port);
-                }
-            }
-        }
+    let mut parts = vec![
+        Part {
+            count: written.len() as u64,
+            case: Box::new(|index| written[index as usize].clone()),
+            name: Box::new(|index| format!("{index} of those written out")),
+        },
+        Part {
+            count,
+            case: Box::new(|index| cases::case(seed, index)),
+            name: Box::new(|index| format!("{index} of seed {seed}, {}", cases::class_of(index).name)),
+        },
+    ];
+    for (path, words) in [("words.rs", &own)].into_iter().chain(lists.iter().map(|(path, words)| (*path, words))) {
+        parts.push(Part {
+            count: words.count(),
+            case: Box::new(|index| words.case(index)),
+            name: Box::new(move |index| format!("{index} of {path} with seed {seed}")),
+        });
     }
-    for (question, found) in QUESTIONS.iter().zip(&differences) {
-        println!("{}: {all} cases, {found} differences", question.name);
-    }
-    std::process::exit(i32::from(differences.iter().any(|&found| found > 0)));
+
+    let start = Instant::now();
+    let outcome = run(&parts, threads);
+    let seconds = start.elapsed().as_secs_f64();
+    show(&parts, &outcome);
+    println!(
+        "{} cases, seed {seed}, {threads} threads, {seconds:.0} s; {} differences",
+        outcome.cases,
+        outcome.count()
+    );
+    std::process::exit(i32::from(outcome.count() > 0));
 }
 
-fn show(question: &str, name: &str, case: &Case, oracle: &str, port: &str) {
-    println!("{question} differs on case {name}");
-    println!("  word   {}", shortened(&case.word));
-    println!("  sheet  {}", shortened(&case.sheet));
-    println!("  oracle {oracle}");
-    println!("  port   {port}");
+fn read(path: &str, seed: u64) -> Words {
+    match std::fs::read(path) {
+        Ok(bytes) => Words::of_lines(&bytes, seed),
+        Err(error) => options::refuse("compare", &format!("{path}: {error}")),
+    }
+}
+
+/// The differences of each question, the first of them in full, and how many cases were refused with which number.
+fn show(parts: &[Part], outcome: &Outcome) {
+    for (k, question) in outcome.questions.iter().enumerate() {
+        for &place in question.first.iter().take(SHOWN) {
+            let (part, index) = part(parts, place);
+            let case = (part.case)(index);
+            println!("{} differs on case {}", NAMES[k], (part.name)(index));
+            show_case(&case, k);
+        }
+    }
+    for (name, question) in NAMES.iter().zip(&outcome.questions) {
+        println!("{name}: {} cases, {} differences", outcome.cases, question.count);
+    }
+    let [listed, refused @ ..] = outcome.numbers;
+    let numbers: Vec<String> = (1..).zip(refused).map(|(number, count)| format!("{count} with {number}")).collect();
+    println!("{listed} cases have a list; refused are {}", numbers.join(", "));
+}
+
+fn show_case(case: &Case, k: usize) {
+    let compared = Compared::of(case);
+    println!("  word      {}", shortened(&case.word));
+    println!("  sheet     {}", shortened(&case.sheet));
+    println!("  oracle    {}", compared.oracle[k]);
+    println!("  functions {}", compared.functions[k]);
+    println!("  crate     {}", compared.api[k]);
 }
 
 /// The bytes as a Rust literal; of long ones the first and the last.

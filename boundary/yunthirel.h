@@ -1,0 +1,170 @@
+/* Word analysis for Nepali root indexes: the functions of the static library (`rt staticlib exports`), for x86-64 programs in C and C++.
+ *
+ * A function takes slices, each as a pointer and a number of bytes. A pointer is not NULL, with 0 bytes too; `out` is no part of the
+ * word or the sheet. Every word and every sheet has an answer: nothing need be checked first. No function keeps a pointer, allocates
+ * or has a state, so that threads may call them at once.
+ *
+ * An answer is a code. Its lowest four bits (yunthirel_number_of) are 0 or YUNTHIREL_YES, or the number of a refusal. After a refusal
+ * `out` is as it was; after an answer it is so past the answer's bytes. The texts of rows are in yunthirel_labels.h. */
+#ifndef YUNTHIREL_H
+#define YUNTHIREL_H
+
+#include <stddef.h>
+#include <stdint.h>
+
+#ifdef __cplusplus
+extern "C" {
+#endif
+
+/* What the lowest four bits of a code say. Of several refusals the lowest number is given, except that of 5 and 6 the earlier line
+ * decides; those two have the line's first byte in the sheet above them (yunthirel_start_of). */
+enum yunthirel_number {
+    YUNTHIREL_ANSWERED = 0,
+    YUNTHIREL_WORD_TOO_LONG = 1,    /* the word has more than 192 bytes */
+    YUNTHIREL_WORD_NOT_UTF8 = 2,
+    YUNTHIREL_WORD_FORBIDDEN = 3,   /* the word holds a byte 00 to 20, 28, 29 or 7F (hexadecimal) */
+    YUNTHIREL_SHEET_TOO_LONG = 4,   /* the sheet has more than 65,536 bytes */
+    YUNTHIREL_SHEET_NO_FORM = 5,    /* the first faulty line is no form */
+    YUNTHIREL_SHEET_NOT_ABOVE = 6,  /* the first faulty line is a form, and not above the line before */
+    YUNTHIREL_TOO_MANY_READINGS = 7, /* the word has more than 64 readings */
+    YUNTHIREL_OUTPUT_TOO_SHORT = 8, /* `out` is shorter than the answer */
+    YUNTHIREL_YES = 15              /* a yes, or a form that was found */
+};
+
+static inline enum yunthirel_number yunthirel_number_of(uint64_t code) {
+    return (enum yunthirel_number)(code & 15);
+}
+
+/* The faulty line's first byte in the sheet, for 5 and 6. */
+static inline size_t yunthirel_start_of(uint64_t code) {
+    return (size_t)(code >> 4);
+}
+
+/* How many readings, candidates or bytes of text there are, for a code whose number is 0. */
+static inline size_t yunthirel_count_of(uint64_t code) {
+    return (size_t)(code >> 4);
+}
+
+/* 0 for an accepted word, else 1, 2 or 3. */
+uint64_t yunthirel_check_word(const uint8_t *word, size_t word_len);
+
+/* 0 for an accepted sheet, else 4, 5 or 6. The functions below make this check by themselves. */
+uint64_t yunthirel_check_sheet(const uint8_t *sheet, size_t sheet_len);
+
+/* Readings. A stem is the word's first `stem` bytes, its root the stem from byte `root` on. Prefix rows, outermost first, are those of
+ * yunthirel_prefix_labels; segments, nearest the stem first, have rows of yunthirel_affixes. Places that are not used are 0. */
+enum yunthirel_kind {
+    YUNTHIREL_PARTICLE = 0,
+    YUNTHIREL_CASE_MARKER = 1,
+    YUNTHIREL_PLURAL_MARKER = 2,
+    YUNTHIREL_POSTPOSITION = 3,
+    YUNTHIREL_COMPARISON_MARKER = 4
+};
+
+struct yunthirel_segment {
+    uint8_t row;
+    uint8_t kind; /* enum yunthirel_kind */
+};
+
+struct yunthirel_reading {
+    uint16_t stem;
+    uint16_t root;
+    uint16_t score; /* at most 612 */
+    uint8_t prefixes[2];
+    struct yunthirel_segment segments[4];
+    uint8_t prefix_count;
+    uint8_t suffix_count;
+};
+
+/* Rows and bytes that are always enough. */
+#define YUNTHIREL_READINGS 64
+#define YUNTHIREL_CANDIDATES 16
+#define YUNTHIREL_LISTING_BYTES 35466
+
+/* The word's readings in rank order: `out` takes an array of struct yunthirel_reading, and its length is in bytes, as everywhere.
+ * 16 times the number of readings; else 1 to 8. */
+uint64_t yunthirel_readings(const uint8_t *word, size_t word_len, const uint8_t *sheet, size_t sheet_len, uint8_t *out, size_t out_len);
+
+/* The same list as text, as the program `readings` prints it, without a 0 at its end. 16 times the number of bytes; else 1 to 8. */
+uint64_t yunthirel_listing(const uint8_t *word, size_t word_len, const uint8_t *sheet, size_t sheet_len, uint8_t *out, size_t out_len);
+
+/* YUNTHIREL_YES where the word has a reading, 0 where it has none; else 1 to 7. */
+uint64_t yunthirel_has_analysis(const uint8_t *word, size_t word_len, const uint8_t *sheet, size_t sheet_len);
+
+/* Root candidates, and the decomposition, which has neither `known` nor `score` (both 0). The root is the word from byte `start` up to
+ * byte `end`. The prefix row is one of yunthirel_prefix_labels; suffix rows, in the order in which they were taken off, are those of
+ * yunthirel_suffixes. Places that are not used are 0. */
+enum yunthirel_origin_tag { YUNTHIREL_TATSAM = 0, YUNTHIREL_TADBHAV = 1, YUNTHIREL_DESHAJ = 2, YUNTHIREL_AAGANTUK = 3 };
+
+enum yunthirel_known { YUNTHIREL_KNOWN_WORD = 1, YUNTHIREL_KNOWN_HEADWORD = 2 };
+
+struct yunthirel_root {
+    uint8_t start;
+    uint8_t end;
+    uint8_t prefix;
+    uint8_t prefix_count; /* 0 or 1 */
+    uint8_t suffix_count; /* at most 24 */
+    uint8_t origin;       /* enum yunthirel_origin_tag */
+    uint8_t known;        /* bits of enum yunthirel_known */
+    uint8_t score[2];     /* the low byte first: see yunthirel_root_score */
+    uint8_t suffixes[24];
+};
+
+static inline uint16_t yunthirel_root_score(const struct yunthirel_root *root) {
+    return (uint16_t)(root->score[0] | root->score[1] << 8);
+}
+
+/* The word's root candidates in rank order: `out` takes an array of struct yunthirel_root. 16 times their number; else 1 to 6, or 8. */
+uint64_t yunthirel_candidates(const uint8_t *word, size_t word_len, const uint8_t *sheet, size_t sheet_len, uint8_t *out, size_t out_len);
+
+/* The word's decomposition: `out` takes one struct yunthirel_root. 0; else 1 to 6, or 8. */
+uint64_t yunthirel_decompose(const uint8_t *word, size_t word_len, const uint8_t *sheet, size_t sheet_len, uint8_t *out, size_t out_len);
+
+/* The word as a progressive form: 0 for none, else YUNTHIREL_YES with the places that yunthirel_form_of reads; else 1 to 6. */
+uint64_t yunthirel_progressive(const uint8_t *word, size_t word_len, const uint8_t *sheet, size_t sheet_len);
+
+/* The main form is the word's first `main_end` bytes, the auxiliary the rest; the lemma is a part of the sheet. */
+struct yunthirel_form {
+    size_t main_end;
+    size_t lemma_at;
+    size_t lemma_len;
+    int negative; /* 1 where a leading न was taken off to find the lemma */
+};
+
+static inline struct yunthirel_form yunthirel_form_of(uint64_t code) {
+    struct yunthirel_form form;
+    form.main_end = (size_t)(code >> 5 & 0xFF);
+    form.lemma_at = (size_t)(code >> 21);
+    form.lemma_len = (size_t)(code >> 13 & 0xFF);
+    form.negative = (int)(code >> 4 & 1);
+    return form;
+}
+
+/* YUNTHIREL_YES where the word is a supported progressive form, 0 where it is none; else 1 to 6. */
+uint64_t yunthirel_has_progressive(const uint8_t *word, size_t word_len, const uint8_t *sheet, size_t sheet_len);
+
+/* Where the word comes from and how that is known, which the two functions below it read from the code; else 1 to 6. */
+uint64_t yunthirel_origin(const uint8_t *word, size_t word_len, const uint8_t *sheet, size_t sheet_len);
+
+enum yunthirel_source { YUNTHIREL_OVERRIDE = 0, YUNTHIREL_KOSHA = 1, YUNTHIREL_HEURISTIC = 2, YUNTHIREL_UNKNOWN = 3 };
+
+static inline enum yunthirel_origin_tag yunthirel_origin_of(uint64_t code) {
+    return (enum yunthirel_origin_tag)(code >> 4 & 3);
+}
+
+static inline enum yunthirel_source yunthirel_source_of(uint64_t code) {
+    return (enum yunthirel_source)(code >> 6 & 3);
+}
+
+/* How surely the origin is known: 0.0, 0.65, 0.90, 0.95 or 1.0; 0.0 for a refused word or sheet. */
+float yunthirel_confidence(const uint8_t *word, size_t word_len, const uint8_t *sheet, size_t sheet_len);
+
+/* The structs are the rows byte for byte. */
+typedef char yunthirel_reading_has_18_bytes[sizeof(struct yunthirel_reading) == 18 ? 1 : -1];
+typedef char yunthirel_root_has_33_bytes[sizeof(struct yunthirel_root) == 33 ? 1 : -1];
+
+#ifdef __cplusplus
+}
+#endif
+
+#endif

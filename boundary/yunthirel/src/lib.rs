@@ -1,0 +1,47 @@
+//! Word analysis for Nepali root indexes: readings, root candidates, decomposition, progressive form and origin, each for a word
+//! and a *sheet* of the lexicon's answers.
+//!
+//! The answers are made by the proved library (`rt staticlib exports`); this crate lends it the slices and reads its codes. Words
+//! and sheets are bytes, since any bytes have an answer: a word or sheet that breaks a rule is refused with a [`Refusal`].
+//!
+//! ```
+//! let word = "घरले".as_bytes();
+//! let sheet = "(w घर (wh))\n".as_bytes();
+//!
+//! let readings = yunthirel::analyze_affixes(word, sheet)?;
+//! assert_eq!(readings.len(), 1);
+//! assert_eq!(readings[0].root, "घर");
+//! assert_eq!(readings[0].suffix_segments[0].text, "ले");
+//! assert_eq!(readings[0].score, 279);
+//!
+//! let refusal = yunthirel::analyze_affixes(word, b"(w \n").unwrap_err();
+//! assert_eq!((refusal.number(), refusal.start()), (5, Some(0)));
+//! # Ok::<(), yunthirel::Refusal>(())
+//! ```
+//!
+//! Functions and fields have the names of the Rust source that the library is a port of. Texts are parts of what was lent: stems
+//! and roots of the word, a lemma of the sheet. A function of the library that gives a code which is none of its answers makes
+//! this crate panic: then the archive and this crate do not belong together.
+//!
+//! [`raw`] has the library's functions as they are, for callers with buffers of their own. It is the one module with unsafe code:
+//! the crate denies it, each other module forbids it, and this file holds no code.
+#![deny(unsafe_code)]
+#![warn(missing_docs)]
+
+mod check;
+pub mod labels;
+mod origin;
+mod progressive;
+pub mod raw;
+mod readings;
+mod refusal;
+mod roots;
+
+pub use check::{check_sheet, check_word};
+pub use origin::{Origin, OriginDecision, OriginSource, classify, classify_with_provenance};
+pub use progressive::{ProgressiveAnalysis, analyze_progressive, has_supported_progressive_form};
+pub use readings::{
+    AffixKind, AffixSegment, Reading, analyze_affixes, best_analysis, has_supported_analysis, write_readings,
+};
+pub use refusal::Refusal;
+pub use roots::{Morpheme, RootCandidate, best_root, decompose, has_known_root, lookup_root_candidates};

@@ -1,0 +1,81 @@
+//! Progressive forms: खाइरहेको and the like.
+#![forbid(unsafe_code)]
+
+use crate::raw;
+use crate::refusal::{INPUTS, Refusal, no_answer, refused};
+
+/// A progressive form's parts.
+#[derive(Debug, Clone, Copy, PartialEq, Eq, Hash)]
+pub struct ProgressiveAnalysis<'w, 's> {
+    /// The linked form, with its न where it is negative.
+    pub main_form: &'w str,
+    /// The main form's infinitive, as its line in the sheet names it.
+    pub main_lemma: &'s str,
+    /// The rest of the word: रहेको, रहेकी or रहेका.
+    pub auxiliary_form: &'w str,
+    /// The auxiliary's infinitive, always रहनु.
+    pub auxiliary_lemma: &'static str,
+    /// Whether a leading न was taken off to find the lemma.
+    pub negative: bool,
+}
+
+impl<'w, 's> ProgressiveAnalysis<'w, 's> {
+    /// The form that a code of [`raw::progressive`] says for this word and sheet; none for codes that say no form of them.
+    pub fn of_code(word: &'w [u8], sheet: &'s [u8], code: u64) -> Option<ProgressiveAnalysis<'w, 's>> {
+        if code % 16 != 15 {
+            return None;
+        }
+        let (main_end, lemma_len) = ((code >> 5 & 0xFF) as usize, (code >> 13 & 0xFF) as usize);
+        let lemma_at = (code >> 21) as usize;
+        Some(ProgressiveAnalysis {
+            main_form: word.get(..main_end).and_then(text)?,
+            main_lemma: sheet.get(lemma_at..)?.get(..lemma_len).and_then(text)?,
+            auxiliary_form: word.get(main_end..).and_then(text)?,
+            auxiliary_lemma: "रहनु",
+            negative: code >> 4 & 1 != 0,
+        })
+    }
+}
+
+fn text(bytes: &[u8]) -> Option<&str> {
+    std::str::from_utf8(bytes).ok()
+}
+
+/// The parts of the word as a progressive form, or none.
+///
+/// # Errors
+/// 1 to 6 for the word and the sheet.
+///
+/// ```
+/// let found = yunthirel::analyze_progressive("नखाइरहेको".as_bytes(), "(w खानु (hv))\n(w रहनु (hv))\n".as_bytes())?;
+/// let found = found.expect("a progressive form");
+/// assert_eq!((found.main_form, found.main_lemma, found.auxiliary_form), ("नखाइ", "खानु", "रहेको"));
+/// assert!(found.negative);
+/// # Ok::<(), yunthirel::Refusal>(())
+/// ```
+pub fn analyze_progressive<'w, 's>(
+    word: &'w [u8],
+    sheet: &'s [u8],
+) -> Result<Option<ProgressiveAnalysis<'w, 's>>, Refusal> {
+    let code = raw::progressive(word, sheet);
+    match code % 16 {
+        0 if code == 0 => Ok(None),
+        15 => match ProgressiveAnalysis::of_code(word, sheet, code) {
+            Some(found) => Ok(Some(found)),
+            None => no_answer("yunthirel_progressive", &format!("gave {code:#x}")),
+        },
+        _ => Err(refused("yunthirel_progressive", INPUTS, code)),
+    }
+}
+
+/// Whether the word is a supported progressive form.
+///
+/// # Errors
+/// 1 to 6 for the word and the sheet.
+pub fn has_supported_progressive_form(word: &[u8], sheet: &[u8]) -> Result<bool, Refusal> {
+    match raw::has_progressive(word, sheet) {
+        0 => Ok(false),
+        15 => Ok(true),
+        code => Err(refused("yunthirel_has_progressive", INPUTS, code)),
+    }
+}

@@ -1,0 +1,147 @@
+//! The library's functions as they are: slices in, a code out. Every input is allowed and has one answer.
+//!
+//! The lowest four bits of a code are 0 for an answer without a refusal, 15 for a yes or a form that was found, and else the
+//! [`Refusal`](crate::Refusal)'s number, which [`Refusal::of_code`](crate::Refusal::of_code) reads. After a refusal, 8 among them,
+//! a lent buffer is as it was; after an answer it is so past the answer's bytes.
+//!
+//! Only this module has unsafe code.
+#![allow(unsafe_code)]
+
+/// The bytes of one reading in [`readings`]: stem's end, root's start and score as two bytes each, the low one first; two prefix
+/// rows; four segments, each a row and the number of its kind; how many prefixes, how many segments.
+pub const READING_ROW: usize = 18;
+
+/// The bytes of one candidate in [`candidates`], and of a decomposition in [`decompose`]: root's start and end, prefix row, how
+/// many prefixes, how many suffixes, origin, letters (w 1, h 2), score as two bytes, the low one first, and 24 suffix rows. A
+/// decomposition has neither letters nor score.
+pub const CANDIDATE_ROW: usize = 33;
+
+/// Bytes that are always enough for [`readings`]: 64 rows.
+pub const READINGS_ROOM: usize = 64 * READING_ROW;
+
+/// Bytes that are always enough for [`candidates`]: 16 rows.
+pub const CANDIDATES_ROOM: usize = 16 * CANDIDATE_ROW;
+
+/// Bytes that are always enough for [`listing`].
+pub const LISTING_ROOM: usize = 35_466;
+
+mod foreign {
+    // SAFETY: these are the library's declarations. Each function reads as many bytes at a pointer as the length after it says, and
+    // writes nothing but what is lent as `*mut`, within its length; each is defined for all bytes and keeps no pointer.
+    unsafe extern "C" {
+        pub fn yunthirel_check_word(word: *const u8, word_len: usize) -> u64;
+        pub fn yunthirel_check_sheet(sheet: *const u8, sheet_len: usize) -> u64;
+        pub fn yunthirel_progressive(word: *const u8, word_len: usize, sheet: *const u8, sheet_len: usize) -> u64;
+        pub fn yunthirel_has_progressive(word: *const u8, word_len: usize, sheet: *const u8, sheet_len: usize) -> u64;
+        pub fn yunthirel_has_analysis(word: *const u8, word_len: usize, sheet: *const u8, sheet_len: usize) -> u64;
+        pub fn yunthirel_origin(word: *const u8, word_len: usize, sheet: *const u8, sheet_len: usize) -> u64;
+        pub fn yunthirel_confidence(word: *const u8, word_len: usize, sheet: *const u8, sheet_len: usize) -> f32;
+        pub fn yunthirel_readings(
+            word: *const u8,
+            word_len: usize,
+            sheet: *const u8,
+            sheet_len: usize,
+            out: *mut u8,
+            out_len: usize,
+        ) -> u64;
+        pub fn yunthirel_listing(
+            word: *const u8,
+            word_len: usize,
+            sheet: *const u8,
+            sheet_len: usize,
+            out: *mut u8,
+            out_len: usize,
+        ) -> u64;
+        pub fn yunthirel_candidates(
+            word: *const u8,
+            word_len: usize,
+            sheet: *const u8,
+            sheet_len: usize,
+            out: *mut u8,
+            out_len: usize,
+        ) -> u64;
+        pub fn yunthirel_decompose(
+            word: *const u8,
+            word_len: usize,
+            sheet: *const u8,
+            sheet_len: usize,
+            out: *mut u8,
+            out_len: usize,
+        ) -> u64;
+    }
+}
+
+/// 0 for an accepted word, else 1, 2 or 3.
+pub fn check_word(word: &[u8]) -> u64 {
+    // SAFETY: pointer and length are those of one slice, lent for the call.
+    unsafe { foreign::yunthirel_check_word(word.as_ptr(), word.len()) }
+}
+
+/// 0 for an accepted sheet, 4, or 5 or 6 and 16 times the faulty line's first byte.
+pub fn check_sheet(sheet: &[u8]) -> u64 {
+    // SAFETY: as above.
+    unsafe { foreign::yunthirel_check_sheet(sheet.as_ptr(), sheet.len()) }
+}
+
+/// The refusal; 0 for no progressive form; else 15 and, from bit 4 on, negative (1 bit), the main form's end in the word (8), the
+/// lemma's length (8) and its place in the sheet.
+pub fn progressive(word: &[u8], sheet: &[u8]) -> u64 {
+    // SAFETY: as above, for two slices.
+    unsafe { foreign::yunthirel_progressive(word.as_ptr(), word.len(), sheet.as_ptr(), sheet.len()) }
+}
+
+/// The refusal; 15 for a supported progressive form, 0 for none.
+pub fn has_progressive(word: &[u8], sheet: &[u8]) -> u64 {
+    // SAFETY: as above.
+    unsafe { foreign::yunthirel_has_progressive(word.as_ptr(), word.len(), sheet.as_ptr(), sheet.len()) }
+}
+
+/// The refusal, 7 for more than 64 readings among them; 15 for a word with readings, 0 for one without.
+pub fn has_analysis(word: &[u8], sheet: &[u8]) -> u64 {
+    // SAFETY: as above.
+    unsafe { foreign::yunthirel_has_analysis(word.as_ptr(), word.len(), sheet.as_ptr(), sheet.len()) }
+}
+
+/// The refusal; else 0 in the lowest four bits, then origin (2 bits) and source (2).
+pub fn origin(word: &[u8], sheet: &[u8]) -> u64 {
+    // SAFETY: as above.
+    unsafe { foreign::yunthirel_origin(word.as_ptr(), word.len(), sheet.as_ptr(), sheet.len()) }
+}
+
+/// How surely the origin is known; 0.0 for a refused word or sheet.
+pub fn confidence(word: &[u8], sheet: &[u8]) -> f32 {
+    // SAFETY: as above.
+    unsafe { foreign::yunthirel_confidence(word.as_ptr(), word.len(), sheet.as_ptr(), sheet.len()) }
+}
+
+/// The refusal, 7 for more than 64 readings and 8 for too short an `out` among them; else 16 times the number of readings, each a
+/// row of [`READING_ROW`] bytes in `out`.
+pub fn readings(word: &[u8], sheet: &[u8], out: &mut [u8]) -> u64 {
+    // SAFETY: as above, and the third slice is lent for writing and is no part of the others.
+    unsafe {
+        foreign::yunthirel_readings(word.as_ptr(), word.len(), sheet.as_ptr(), sheet.len(), out.as_mut_ptr(), out.len())
+    }
+}
+
+/// The same list as the text that the program `readings` prints; 16 times the number of its bytes.
+pub fn listing(word: &[u8], sheet: &[u8], out: &mut [u8]) -> u64 {
+    // SAFETY: as above.
+    unsafe {
+        foreign::yunthirel_listing(word.as_ptr(), word.len(), sheet.as_ptr(), sheet.len(), out.as_mut_ptr(), out.len())
+    }
+}
+
+/// The refusal, 8 for too short an `out` among them; else 16 times the number of root candidates, each a row of
+/// [`CANDIDATE_ROW`] bytes in `out`.
+pub fn candidates(word: &[u8], sheet: &[u8], out: &mut [u8]) -> u64 {
+    let (word_at, sheet_at, out_at) = (word.as_ptr(), sheet.as_ptr(), out.as_mut_ptr());
+    // SAFETY: as above.
+    unsafe { foreign::yunthirel_candidates(word_at, word.len(), sheet_at, sheet.len(), out_at, out.len()) }
+}
+
+/// The refusal, 8 for an `out` of less than [`CANDIDATE_ROW`] bytes among them; else 0, with the decomposition in `out`.
+pub fn decompose(word: &[u8], sheet: &[u8], out: &mut [u8]) -> u64 {
+    let (word_at, sheet_at, out_at) = (word.as_ptr(), sheet.as_ptr(), out.as_mut_ptr());
+    // SAFETY: as above.
+    unsafe { foreign::yunthirel_decompose(word_at, word.len(), sheet_at, sheet.len(), out_at, out.len()) }
+}

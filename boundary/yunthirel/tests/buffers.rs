@@ -1,0 +1,108 @@
+//! What the functions leave in a lent buffer: past the answer, after a refusal, and where the answer just fits.
+
+mod common;
+
+use common::{SEVENTY_SEVEN, SIXTY_THREE, every_run};
+use yunthirel::raw;
+
+type Ask = fn(&[u8], &[u8], &mut [u8]) -> u64;
+
+/// The functions that fill a buffer, each with the bytes that an answer with this code has.
+const FILLING: [(Ask, fn(u64) -> usize); 4] = [
+    (raw::readings, |code| 18 * (code / 16) as usize),
+    (raw::listing, |code| (code / 16) as usize),
+    (raw::candidates, |code| 33 * (code / 16) as usize),
+    (raw::decompose, |_| 33),
+];
+
+/// Asks twice, with a buffer of one byte and then of another: what is written is the same, what is left differs everywhere.
+fn filled(ask: Ask, word: &[u8], sheet: &[u8], length: usize) -> (u64, Vec<u8>, usize) {
+    let (mut one, mut other) = (vec![0x55; length], vec![0xAA; length]);
+    let code = ask(word, sheet, &mut one);
+    assert_eq!(ask(word, sheet, &mut other), code);
+    let written = one.iter().zip(&other).take_while(|(a, b)| a == b).count();
+    assert!(one[written..].iter().all(|&byte| byte == 0x55), "written past the answer");
+    assert!(other[written..].iter().all(|&byte| byte == 0xAA), "written past the answer");
+    one.truncate(written);
+    (code, one, written)
+}
+
+fn cases() -> Vec<(&'static str, Vec<u8>)> {
+    vec![
+        ("घरले", "(w घर (wh))\n".into()),
+        ("घरकोता", "(w घर (w))\n(w घरको (w))\n".into()),
+        (SIXTY_THREE, every_run(SIXTY_THREE)),
+        ("निःघरपहाडितएको", every_run("निःघरपहाडितएको")),
+        ("असफल", "(w सफल (w))\n".into()),
+        ("", vec![]),
+    ]
+}
+
+#[test]
+fn an_answer_fills_its_own_bytes_alone() {
+    for (word, sheet) in cases() {
+        for (ask, size_of) in FILLING {
+            let (code, bytes, written) = filled(ask, word.as_bytes(), &sheet, 40_000);
+            assert_eq!(code % 16, 0, "{word}");
+            assert_eq!(written, size_of(code), "{word}");
+            // A buffer that just fits has the same bytes.
+            assert_eq!(filled(ask, word.as_bytes(), &sheet, written), (code, bytes, written), "{word}");
+            if written > 0 {
+                assert_eq!(filled(ask, word.as_bytes(), &sheet, written - 1), (8, vec![], 0), "{word}");
+                assert_eq!(filled(ask, word.as_bytes(), &sheet, 0), (8, vec![], 0), "{word}");
+            }
+        }
+    }
+}
+
+#[test]
+fn a_refusal_leaves_the_buffer() {
+    let refused: [(&[u8], &[u8], u64); 6] = [
+        (&[b'a'; 193], b"", 1),
+        (b"\xFF", b"", 2),
+        (b"(", b"", 3),
+        (b"", &[b'\n'; 65_537], 4),
+        (b"", b"(w a (w))\n\n", 5 + 16 * 10),
+        (b"", b"(w a (w))\n(w a (w))\n", 6 + 16 * 10),
+    ];
+    for (word, sheet, code) in refused {
+        for (ask, _) in FILLING {
+            assert_eq!(filled(ask, word, sheet, 40_000), (code, vec![], 0));
+            assert_eq!(filled(ask, word, sheet, 0), (code, vec![], 0));
+        }
+    }
+    let sheet = every_run(SEVENTY_SEVEN);
+    for ask in [raw::readings, raw::listing] as [Ask; 2] {
+        assert_eq!(filled(ask, SEVENTY_SEVEN.as_bytes(), &sheet, 40_000), (7, vec![], 0));
+    }
+}
+
+#[test]
+fn rows_that_are_no_answer_are_not_read() {
+    let word = "घरले".as_bytes();
+    let mut row = [0; raw::READING_ROW];
+    raw::readings(word, "(w घर (wh))\n".as_bytes(), &mut row);
+    assert!(yunthirel::Reading::of_row(word, &row).is_some());
+    // Stem, root, a prefix row that is not counted, segment row, kind, a segment that is not counted, the two counts.
+    for (at, byte) in [(0, 13), (0, 5), (2, 1), (2, 7), (6, 1), (8, 25), (9, 5), (10, 1), (16, 3), (17, 5)] {
+        let mut other = row;
+        other[at] = byte;
+        assert_eq!(yunthirel::Reading::of_row(word, &other), None, "byte {at} as {byte}");
+    }
+    let mut row = [0; raw::CANDIDATE_ROW];
+    raw::candidates(word, "(w घर (wh))\n".as_bytes(), &mut row);
+    assert!(yunthirel::RootCandidate::of_row(word, &row).is_some());
+    // Start, end, prefix, the two counts, origin, letters, suffix row, a suffix that is not counted.
+    for (at, byte) in
+        [(0, 1), (0, 7), (1, 13), (1, 5), (2, 1), (3, 2), (4, 25), (5, 4), (6, 0), (6, 4), (9, 24), (10, 1)]
+    {
+        let mut other = row;
+        other[at] = byte;
+        assert_eq!(yunthirel::RootCandidate::of_row(word, &other), None, "byte {at} as {byte}");
+    }
+    let mut row = [0; raw::CANDIDATE_ROW];
+    raw::decompose(word, "(w घर (wh))\n".as_bytes(), &mut row);
+    assert!(yunthirel::Morpheme::of_row(word, &row).is_some());
+    row[7] = 1;
+    assert_eq!(yunthirel::Morpheme::of_row(word, &row), None);
+}

@@ -1,0 +1,97 @@
+/* The texts of the rows that the functions of yunthirel.h name by number, as UTF-8. Written by tools/tables.py from the
+ * source's tables.rs. */
+#ifndef YUNTHIREL_LABELS_H
+#define YUNTHIREL_LABELS_H
+
+/* PREFIX_FORMS, the labels: the prefix rows of readings, decompositions and candidates. */
+static const char *const yunthirel_prefix_labels[30] = {
+    "प्रति",
+    "पुनः",
+    "पुनः",
+    "निर्",
+    "निस्",
+    "दुस्",
+    "दुस्",
+    "दुर्",
+    "अभि",
+    "अधि",
+    "दुर्",
+    "सम्",
+    "उत्",
+    "उत्",
+    "उत्",
+    "सम्",
+    "अनु",
+    "परि",
+    "परा",
+    "अति",
+    "निर्",
+    "निस्",
+    "प्र",
+    "सम्",
+    "अप",
+    "अव",
+    "उप",
+    "वि",
+    "आ",
+    "अ",
+};
+
+/* PLURAL_MARKERS, CASE_MARKERS and PARTICLES: the segment rows of readings. */
+static const char *const yunthirel_affixes[25] = {
+    "हरू",
+    "हरु",
+    "द्वारा",
+    "भित्र",
+    "प्रति",
+    "देखि",
+    "सँगै",
+    "सम्म",
+    "सरह",
+    "लाई",
+    "बाट",
+    "सँग",
+    "तिर",
+    "का",
+    "की",
+    "ले",
+    "को",
+    "मा",
+    "क्यारे",
+    "पनि",
+    "नै",
+    "कै",
+    "पो",
+    "रे",
+    "खै",
+};
+
+/* SUFFIXES: the suffix rows of decompositions and candidates. */
+static const char *const yunthirel_suffixes[24] = {
+    "उन्जेल",
+    "ईकरण",
+    "इलो",
+    "एको",
+    "आलु",
+    "कार",
+    "एली",
+    "ईय",
+    "मय",
+    "ाइ",
+    "एर",
+    "पन",
+    "ता",
+    "नु",
+    "ने",
+    "आत",
+    "अट",
+    "को",
+    "मा",
+    "ले",
+    "ित",
+    "इक",
+    "ई",
+    "ी",
+};
+
+#endif

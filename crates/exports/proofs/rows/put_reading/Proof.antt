@@ -1,0 +1,107 @@
+-- `rows::put_reading` meets its contract. Assumes nothing.
+use Prim.Native.Nat.{ℕ}
+use mathlib.Core.Path.{ap, _∙_}
+use mathlib.Core.List.{List, _++_}
+use lib.ListN.{drop}
+use Rattle.exports.proofs.Put.{reading-bytes}
+use borrow.Author.Needs.{needs}
+use Rattle.exports.proofs.rows.put_reading.Statement.{statement}
+use Rattle.exports.proofs.rows.put_reading.Tie as tie
+
+array-copy-out-a : tie.Need-array-copy-out-a
+array-copy-out-a c = search needs
+
+array-copy-out-b : tie.Need-array-copy-out-b
+array-copy-out-b c = search needs
+
+array-copy-out-c : tie.Need-array-copy-out-c
+array-copy-out-c c = search needs
+
+array-copy-out-d : tie.Need-array-copy-out-d
+array-copy-out-d c = search needs
+
+low-requires : tie.Need-low-requires
+low-requires c κs = search needs
+
+high-requires : tie.Need-high-requires
+high-requires c κs = search needs
+
+low-requires-2 : tie.Need-low-requires-2
+low-requires-2 c κs = search needs
+
+high-requires-2 : tie.Need-high-requires-2
+high-requires-2 c κs = search needs
+
+low-requires-3 : tie.Need-low-requires-3
+low-requires-3 c κs = search needs
+
+high-requires-3 : tie.Need-high-requires-3
+high-requires-3 c κs = search needs
+
+array-read-t31 : tie.Need-array-read-t31
+array-read-t31 c = search needs
+
+array-read-t34 : tie.Need-array-read-t34
+array-read-t34 c = search needs
+
+kind-number-requires : tie.Need-kind-number-requires
+kind-number-requires c κs = search needs
+
+kind-number-requires-2 : tie.Need-kind-number-requires-2
+kind-number-requires-2 c κs = search needs
+
+kind-number-requires-3 : tie.Need-kind-number-requires-3
+kind-number-requires-3 c κs = search needs
+
+kind-number-requires-4 : tie.Need-kind-number-requires-4
+kind-number-requires-4 c κs = search needs
+
+slice-aggregate-copy : tie.Need-slice-aggregate-copy
+slice-aggregate-copy c = search needs
+
+copy-requires : tie.Need-copy-requires
+copy-requires c κs = search needs
+
+same-length : tie.Need-same-length
+same-length c = search needs
+
+returns : tie.Need-returns
+returns c =
+    let x = c .before .before in
+    let m = x .before .before .before in
+    let j = m .before .before .before in
+    let f = j .before in
+    let e = f .before in
+    let d = e .before in
+    let g = d .before in
+    let b = g .before in
+    let a = b .before in
+    let s = a .before .before .before .before .before .before .before .before .args in
+    x .copy .ensures .1 ∙ ap (λ (l : List ℕ). l ++ drop 18 (s .out .now))
+    (reading-bytes (s .r) (a .low .ensures) (b .high .ensures) (g .low2 .ensures) (d .high2 .ensures) (e .low3 .ensures) (f .high3 .ensures)
+    (j .kind-number .ensures) (m .before .before .kind-number2 .ensures) (m .before .kind-number3 .ensures) (m .kind-number4 .ensures))
+
+pub put-reading-spec : {M : Type 1} → statement M
+put-reading-spec =
+    tie.close
+    (tie.spec
+    array-copy-out-a
+    array-copy-out-b
+    array-copy-out-c
+    array-copy-out-d
+    low-requires
+    high-requires
+    low-requires-2
+    high-requires-2
+    low-requires-3
+    high-requires-3
+    array-read-t31
+    array-read-t34
+    kind-number-requires
+    kind-number-requires-2
+    kind-number-requires-3
+    kind-number-requires-4
+    slice-aggregate-copy
+    copy-requires
+    same-length
+    returns)

@@ -1,0 +1,168 @@
+//! The answers of the library's functions, with every buffer checked.
+
+use crate::{Answers, buffers, texts};
+use blocks::Case;
+use yunthirel::raw::{self, CANDIDATE_ROW, CANDIDATES_ROOM, LISTING_ROOM, READING_ROW, READINGS_ROOM};
+use yunthirel::{Morpheme, OriginDecision, ProgressiveAnalysis, Reading, Refusal, RootCandidate};
+
+type Check = fn(&[u8]) -> u64;
+type Ask = fn(&[u8], &[u8]) -> u64;
+type Fill = fn(&[u8], &[u8], &mut [u8]) -> u64;
+
+/// The functions that are asked: the library's, or others in their place where a test plants a wrong one.
+#[derive(Clone, Copy)]
+pub struct Functions {
+    pub check_word: Check,
+    pub check_sheet: Check,
+    pub readings: Fill,
+    pub listing: Fill,
+    pub has_analysis: Ask,
+    pub candidates: Fill,
+    pub decompose: Fill,
+    pub progressive: Ask,
+    pub has_progressive: Ask,
+    pub origin: Ask,
+    pub confidence: fn(&[u8], &[u8]) -> f32,
+}
+
+pub const LIBRARY: Functions = Functions {
+    check_word: raw::check_word,
+    check_sheet: raw::check_sheet,
+    readings: raw::readings,
+    listing: raw::listing,
+    has_analysis: raw::has_analysis,
+    candidates: raw::candidates,
+    decompose: raw::decompose,
+    progressive: raw::progressive,
+    has_progressive: raw::has_progressive,
+    origin: raw::origin,
+    confidence: raw::confidence,
+};
+
+pub fn answers(functions: &Functions, case: &Case) -> Answers {
+    let (word, sheet) = (&case.word[..], &case.sheet[..]);
+    let [readings, best_analysis] = readings(functions, word, sheet);
+    let [candidates, best_root, has_known_root] = candidates(functions, word, sheet);
+    [
+        check((functions.check_word)(word)),
+        check((functions.check_sheet)(sheet)),
+        readings,
+        listing(functions, word, sheet),
+        best_analysis,
+        yes_or_no("has_analysis", (functions.has_analysis)(word, sheet)),
+        candidates,
+        best_root,
+        has_known_root,
+        decomposition(functions, word, sheet),
+        progressive(word, sheet, (functions.progressive)(word, sheet)),
+        yes_or_no("has_progressive", (functions.has_progressive)(word, sheet)),
+        origin((functions.origin)(word, sheet), (functions.confidence)(word, sheet)),
+    ]
+}
+
+/// The refusal that a code says. Codes that say none are shown, so that they differ.
+fn refused(code: u64) -> String {
+    Refusal::of_code(code).map_or_else(|| format!("no answer: {code:#x}"), texts::refused)
+}
+
+fn check(code: u64) -> String {
+    if code == 0 { texts::ACCEPTED.to_string() } else { refused(code) }
+}
+
+fn yes_or_no(question: &str, code: u64) -> String {
+    match code {
+        0 => texts::yes_or_no(question, false),
+        15 => texts::yes_or_no(question, true),
+        _ => refused(code),
+    }
+}
+
+/// The rows of an answer, each read by `of_row`; else the text of a refusal, or of what is wrong.
+fn rows<T, const ROW: usize>(
+    ask: impl Fn(&mut [u8]) -> u64,
+    room: usize,
+    of_row: impl Fn(&[u8; ROW]) -> Option<T>,
+) -> Result<Vec<T>, String> {
+    let (code, bytes) = buffers::filled(ask, room, |code| ROW * (code / 16) as usize)?;
+    if code % 16 != 0 {
+        return Err(refused(code));
+    }
+    let (rows, _) = bytes.as_chunks::<ROW>();
+    rows.iter().map(|row| of_row(row).ok_or_else(|| format!("no answer: {row:?}"))).collect()
+}
+
+/// The list, and its first row.
+fn readings(functions: &Functions, word: &[u8], sheet: &[u8]) -> [String; 2] {
+    let ask = |out: &mut [u8]| (functions.readings)(word, sheet, out);
+    match rows::<_, READING_ROW>(ask, READINGS_ROOM, |row| Reading::of_row(word, row)) {
+        Ok(list) => [texts::listing(&list), texts::best_analysis(list.first())],
+        Err(text) => [text.clone(), text],
+    }
+}
+
+fn listing(functions: &Functions, word: &[u8], sheet: &[u8]) -> String {
+    let ask = |out: &mut [u8]| (functions.listing)(word, sheet, out);
+    match buffers::filled(ask, LISTING_ROOM, |code| (code / 16) as usize) {
+        Ok((code, bytes)) if code % 16 == 0 => text_of(&bytes),
+        Ok((code, _)) => refused(code),
+        Err(text) => text,
+    }
+}
+
+/// A text of lines, without its last 0A.
+pub fn text_of(bytes: &[u8]) -> String {
+    let text = String::from_utf8_lossy(bytes);
+    text.strip_suffix('\n').map_or_else(|| format!("no 0A at the end of {text}"), str::to_string)
+}
+
+/// The candidates, the first of them, and whether there is one.
+fn candidates(functions: &Functions, word: &[u8], sheet: &[u8]) -> [String; 3] {
+    let ask = |out: &mut [u8]| (functions.candidates)(word, sheet, out);
+    match rows::<_, CANDIDATE_ROW>(ask, CANDIDATES_ROOM, |row| RootCandidate::of_row(word, row)) {
+        Ok(list) => [
+            texts::candidates(&list),
+            texts::best_root(list.first()),
+            texts::yes_or_no("has_known_root", !list.is_empty()),
+        ],
+        Err(text) => [text.clone(), text.clone(), text],
+    }
+}
+
+fn decomposition(functions: &Functions, word: &[u8], sheet: &[u8]) -> String {
+    let ask = |out: &mut [u8]| (functions.decompose)(word, sheet, out);
+    match buffers::filled(ask, CANDIDATE_ROW, |_| CANDIDATE_ROW) {
+        Ok((0, bytes)) => {
+            let row = bytes[..].try_into().expect("the bytes of one row");
+            Morpheme::of_row(word, row)
+                .map_or_else(|| format!("no answer: {row:?}"), |found| texts::decomposition(&found))
+        }
+        Ok((code, _)) => refused(code),
+        Err(text) => text,
+    }
+}
+
+fn progressive(word: &[u8], sheet: &[u8], code: u64) -> String {
+    match (code, ProgressiveAnalysis::of_code(word, sheet, code)) {
+        (0, _) => texts::progressive(None),
+        (_, Some(found)) if is_name(sheet, found.main_lemma) => texts::progressive(Some(found)),
+        (_, Some(_)) => format!("{code:#x}: the lemma is no name of a w line"),
+        (_, None) => refused(code),
+    }
+}
+
+/// Whether the part of the sheet stands in it as the name of a `w` line.
+fn is_name(sheet: &[u8], part: &str) -> bool {
+    let from = part.as_ptr() as usize - sheet.as_ptr() as usize;
+    let (before, after) = (&sheet[..from], &sheet[from + part.len()..]);
+    let head = before.strip_suffix(b"(w ");
+    head.is_some_and(|head| head.is_empty() || head.ends_with(b"\n")) && after.starts_with(b" ")
+}
+
+/// A refusal has confidence 0.0.
+fn origin(code: u64, confidence: f32) -> String {
+    match (OriginDecision::of_code(code, confidence), confidence.to_bits()) {
+        (Some(found), _) => texts::origin(found),
+        (None, 0) => refused(code),
+        (None, bits) => format!("{} with confidence {bits:08X}", refused(code)),
+    }
+}

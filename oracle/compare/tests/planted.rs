@@ -1,0 +1,258 @@
+//! The comparison can fail: functions with a fault in the library's place, each seen at its own question and at no other.
+
+use blocks::Case;
+use compare::functions::{self, Functions, LIBRARY};
+use compare::run::Outcome;
+use compare::{Answers, Compared, NAMES, oracle};
+use std::sync::LazyLock;
+use yunthirel::raw;
+
+/// A round of all classes, which is enough for each fault to show, with the oracle's answers.
+static CASES: LazyLock<Vec<(Case, Answers)>> = LazyLock::new(|| {
+    let round = (0..cases::round() as u64).map(|index| cases::case(3, index));
+    round.map(|case| (case.clone(), oracle::answers(&case))).collect()
+});
+
+/// The questions at which the functions differ from the oracle on some case.
+fn seen(functions: Functions) -> Vec<&'static str> {
+    let mut outcome = Outcome::default();
+    for (place, (case, oracle)) in (0..).zip(CASES.iter()) {
+        let functions = functions::answers(&functions, case);
+        outcome.add(place, &Compared { functions, api: oracle.clone(), oracle: oracle.clone() });
+    }
+    assert_eq!(outcome.cases, CASES.len() as u64);
+    (0..NAMES.len()).filter(|&k| outcome.questions[k].count > 0).map(|k| NAMES[k]).collect()
+}
+
+#[test]
+fn nothing_is_seen_in_the_library() {
+    assert_eq!(seen(LIBRARY), [""; 0]);
+}
+
+#[test]
+fn every_question_can_differ() {
+    let case = Case { word: "घरले".into(), sheet: "(w घर (wh))\n".into() };
+    for k in 0..NAMES.len() {
+        let mut right = Compared::of(&case);
+        assert_eq!(right.differences(), [0; 0]);
+        right.functions[k].push('x');
+        assert_eq!(right.differences(), [k]);
+        let mut right = Compared::of(&case);
+        right.api[k].pop();
+        assert_eq!(right.differences(), [k]);
+    }
+}
+
+/// A number that is another's.
+fn other(code: u64, from: u64, to: u64) -> u64 {
+    if code % 16 == from { code - from + to } else { code }
+}
+
+#[test]
+fn wrong_codes() {
+    let plants: [(&str, Functions); 10] = [
+        ("check_word", Functions { check_word: |word| other(raw::check_word(word), 3, 2), ..LIBRARY }),
+        ("check_sheet", Functions { check_sheet: |sheet| other(raw::check_sheet(sheet), 6, 5), ..LIBRARY }),
+        // The place of the line after the faulty one.
+        (
+            "check_sheet",
+            Functions {
+                check_sheet: |sheet| match raw::check_sheet(sheet) {
+                    code if code % 16 == 5 => code + 16,
+                    code => code,
+                },
+                ..LIBRARY
+            },
+        ),
+        (
+            "has_analysis",
+            Functions { has_analysis: |word, sheet| other(raw::has_analysis(word, sheet), 7, 15), ..LIBRARY },
+        ),
+        (
+            "has_progressive",
+            Functions { has_progressive: |word, sheet| other(raw::has_progressive(word, sheet), 15, 0), ..LIBRARY },
+        ),
+        // The other sign, the lemma a byte on, and no form.
+        ("progressive", Functions { progressive: |word, sheet| form(word, sheet, |code| code ^ 16), ..LIBRARY }),
+        ("progressive", Functions { progressive: |word, sheet| form(word, sheet, |code| code + (1 << 21)), ..LIBRARY }),
+        ("progressive", Functions { progressive: |word, sheet| form(word, sheet, |_| 0), ..LIBRARY }),
+        (
+            "origin",
+            Functions {
+                origin: |word, sheet| match raw::origin(word, sheet) {
+                    code if code % 16 == 0 => code ^ 64,
+                    code => code,
+                },
+                ..LIBRARY
+            },
+        ),
+        // The next number up from 0.90.
+        (
+            "origin",
+            Functions {
+                confidence: |word, sheet| match raw::confidence(word, sheet) {
+                    0.90 => f32::from_bits(0.90_f32.to_bits() + 1),
+                    confidence => confidence,
+                },
+                ..LIBRARY
+            },
+        ),
+    ];
+    for (k, (question, functions)) in plants.into_iter().enumerate() {
+        assert_eq!(seen(functions), [question], "plant {k}");
+    }
+}
+
+/// The code of a progressive form, changed.
+fn form(word: &[u8], sheet: &[u8], change: fn(u64) -> u64) -> u64 {
+    match raw::progressive(word, sheet) {
+        code if code % 16 == 15 => change(code),
+        code => code,
+    }
+}
+
+type Fill = fn(&[u8], &[u8], &mut [u8]) -> u64;
+
+/// The functions that fill a buffer, with the questions that they answer.
+const READINGS: &[&str] = &["readings", "best_analysis"];
+const LISTING: &[&str] = &["listing"];
+const CANDIDATES: &[&str] = &["candidates", "best_root", "has_known_root"];
+const DECOMPOSITION: &[&str] = &["decomposition"];
+
+fn with(questions: &[&str], fill: Fill) -> Functions {
+    match questions[0] {
+        "readings" => Functions { readings: fill, ..LIBRARY },
+        "listing" => Functions { listing: fill, ..LIBRARY },
+        "candidates" => Functions { candidates: fill, ..LIBRARY },
+        _ => Functions { decompose: fill, ..LIBRARY },
+    }
+}
+
+fn all_see(plants: [(&[&str], Fill); 4]) {
+    for (questions, fill) in plants {
+        assert_eq!(seen(with(questions, fill)), questions);
+    }
+}
+
+#[test]
+fn a_byte_past_the_answer() {
+    fn past(code: u64, size: usize, out: &mut [u8]) -> u64 {
+        if code % 16 == 0 {
+            if let Some(byte) = out.get_mut(size) {
+                *byte ^= 1;
+            }
+        }
+        code
+    }
+    all_see([
+        (READINGS, |word, sheet, out| {
+            let code = raw::readings(word, sheet, out);
+            past(code, 18 * (code / 16) as usize, out)
+        }),
+        (LISTING, |word, sheet, out| {
+            let code = raw::listing(word, sheet, out);
+            past(code, (code / 16) as usize, out)
+        }),
+        (CANDIDATES, |word, sheet, out| {
+            let code = raw::candidates(word, sheet, out);
+            past(code, 33 * (code / 16) as usize, out)
+        }),
+        (DECOMPOSITION, |word, sheet, out| {
+            let code = raw::decompose(word, sheet, out);
+            past(code, 33, out)
+        }),
+    ]);
+}
+
+#[test]
+fn a_byte_after_a_refusal() {
+    fn first(code: u64, out: &mut [u8]) -> u64 {
+        if let (1..=7, Some(byte)) = (code % 16, out.first_mut()) {
+            *byte ^= 1;
+        }
+        code
+    }
+    all_see([
+        (READINGS, |word, sheet, out| first(raw::readings(word, sheet, out), out)),
+        (LISTING, |word, sheet, out| first(raw::listing(word, sheet, out), out)),
+        (CANDIDATES, |word, sheet, out| first(raw::candidates(word, sheet, out), out)),
+        (DECOMPOSITION, |word, sheet, out| first(raw::decompose(word, sheet, out), out)),
+    ]);
+}
+
+#[test]
+fn a_byte_in_too_short_a_buffer() {
+    fn last(code: u64, out: &mut [u8]) -> u64 {
+        if let (8, Some(byte)) = (code, out.last_mut()) {
+            *byte ^= 1;
+        }
+        code
+    }
+    all_see([
+        (READINGS, |word, sheet, out| last(raw::readings(word, sheet, out), out)),
+        (LISTING, |word, sheet, out| last(raw::listing(word, sheet, out), out)),
+        (CANDIDATES, |word, sheet, out| last(raw::candidates(word, sheet, out), out)),
+        (DECOMPOSITION, |word, sheet, out| last(raw::decompose(word, sheet, out), out)),
+    ]);
+}
+
+#[test]
+fn an_exact_fit_refused() {
+    /// Asks with a byte less than was lent.
+    fn less(ask: Fill, word: &[u8], sheet: &[u8], out: &mut [u8]) -> u64 {
+        let length = out.len().saturating_sub(1);
+        ask(word, sheet, &mut out[..length])
+    }
+    all_see([
+        (READINGS, |word, sheet, out| less(raw::readings, word, sheet, out)),
+        (LISTING, |word, sheet, out| less(raw::listing, word, sheet, out)),
+        (CANDIDATES, |word, sheet, out| less(raw::candidates, word, sheet, out)),
+        (DECOMPOSITION, |word, sheet, out| less(raw::decompose, word, sheet, out)),
+    ]);
+}
+
+#[test]
+fn a_short_buffer_taken_for_an_answer() {
+    all_see([
+        (READINGS, |word, sheet, out| other(raw::readings(word, sheet, out), 8, 0)),
+        (LISTING, |word, sheet, out| other(raw::listing(word, sheet, out), 8, 0)),
+        (CANDIDATES, |word, sheet, out| other(raw::candidates(word, sheet, out), 8, 0)),
+        (DECOMPOSITION, |word, sheet, out| other(raw::decompose(word, sheet, out), 8, 0)),
+    ]);
+}
+
+#[test]
+fn a_byte_of_the_answer_not_written() {
+    /// What was lent stays in the answer's last byte.
+    fn kept(ask: Fill, size: fn(u64) -> usize, word: &[u8], sheet: &[u8], out: &mut [u8]) -> u64 {
+        let before = out.to_vec();
+        let code = ask(word, sheet, out);
+        if let (0, Some(last)) = (code % 16, size(code).checked_sub(1)) {
+            out[last] = before[last];
+        }
+        code
+    }
+    all_see([
+        (READINGS, |word, sheet, out| kept(raw::readings, |code| 18 * (code / 16) as usize, word, sheet, out)),
+        (LISTING, |word, sheet, out| kept(raw::listing, |code| (code / 16) as usize, word, sheet, out)),
+        (CANDIDATES, |word, sheet, out| kept(raw::candidates, |code| 33 * (code / 16) as usize, word, sheet, out)),
+        (DECOMPOSITION, |word, sheet, out| kept(raw::decompose, |_| 33, word, sheet, out)),
+    ]);
+}
+
+#[test]
+fn one_row_for_another() {
+    /// The last two rows in each other's place: their scores alone may be the same.
+    fn swapped<const ROW: usize>(code: u64, out: &mut [u8]) -> u64 {
+        let count = (code / 16) as usize;
+        if code % 16 == 0 && count > 2 {
+            let (rows, _) = out.as_chunks_mut::<ROW>();
+            rows.swap(count - 2, count - 1);
+        }
+        code
+    }
+    let readings: Fill = |word, sheet, out| swapped::<18>(raw::readings(word, sheet, out), out);
+    assert_eq!(seen(with(READINGS, readings)), ["readings"]);
+    let candidates: Fill = |word, sheet, out| swapped::<33>(raw::candidates(word, sheet, out), out);
+    assert_eq!(seen(with(CANDIDATES, candidates)), ["candidates"]);
+}
