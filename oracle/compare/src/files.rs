@@ -16,6 +16,13 @@ pub struct Words {
     seed: u64,
 }
 
+/// How much stands on a sheet: the lines for the word's own questions alone, or lines of other names too, up to so many bytes.
+#[derive(Clone, Copy)]
+pub enum Fill {
+    Own,
+    UpTo(usize),
+}
+
 impl Words {
     /// The words of a file's bytes. Which letters a name has is drawn by the seed.
     pub fn of_lines(bytes: &[u8], seed: u64) -> Words {
@@ -45,6 +52,15 @@ impl Words {
         Words { words, lexicon, filling, seed }
     }
 
+    /// A lexicon that knows these names by w and nothing else, with names that are made up to fill a sheet.
+    pub fn known(names: Vec<&str>, seed: u64) -> Words {
+        let mut random = Random::for_case(seed, 0);
+        let lexicon: HashMap<String, String> = names.iter().map(|name| (name.to_string(), "w".to_string())).collect();
+        let made = (0..MADE_UP).map(|_| made_up(&mut random)).collect::<Vec<_>>();
+        let filling = made.into_iter().filter(|name| !lexicon.contains_key(name)).map(|name| (name, "wh".to_string()));
+        Words { words: Vec::new(), filling: filling.collect(), lexicon, seed }
+    }
+
     /// Two cases a word.
     pub fn count(&self) -> u64 {
         2 * self.words.len() as u64
@@ -64,11 +80,22 @@ impl Words {
         let mut random = Random::for_case(self.seed, index);
         let kinds = kinds(&mut random);
         if full {
-            self.fill(SHEET_LIMIT - kinds.len(), &mut random, &mut lines);
+            let from = random.below(self.filling.len());
+            fill(SHEET_LIMIT - kinds.len(), self.filling[from..].iter().chain(&self.filling[..from]), &mut lines);
         }
-        let mut sheet = kinds;
-        lines.iter().for_each(|(name, letters)| sheet.push_str(&line(name, letters)));
-        Case { word, sheet: sheet.into_bytes() }
+        Case { word, sheet: (kinds + &written(&lines)).into_bytes() }
+    }
+
+    /// A sheet for the word, without kind lines. What fills it is spread over the whole lexicon.
+    pub fn sheet(&self, word: &str, upto: Fill) -> Vec<u8> {
+        let mut lines = BTreeMap::new();
+        self.answer(word, &mut lines);
+        if let Fill::UpTo(limit) = upto {
+            let step = (self.filling.len() * 10 / SHEET_LIMIT).max(1);
+            let spread = (0..step).flat_map(|from| self.filling[from..].iter().step_by(step));
+            fill(limit, spread, &mut lines);
+        }
+        written(&lines).into_bytes()
     }
 
     /// The lexicon's lines for the word's own questions: its runs, alone and with the texts that are appended, and रहनु.
@@ -93,24 +120,27 @@ impl Words {
             }
         }
     }
+}
 
-    /// Lines of other names, from a place that is drawn on, as far as whole lines go.
-    fn fill<'a>(&'a self, limit: usize, random: &mut Random, lines: &mut BTreeMap<&'a str, &'a str>) {
-        let length = |name: &str, letters: &str| "(w  ())\n".len() + name.len() + letters.len();
-        let mut size: usize = lines.iter().map(|(name, letters)| length(name, letters)).sum();
-        let from = random.below(self.filling.len());
-        for (name, letters) in self.filling[from..].iter().chain(&self.filling[..from]) {
-            let more = length(name, letters);
-            if size + more <= limit && !lines.contains_key(name.as_str()) {
-                lines.insert(name, letters);
-                size += more;
-            }
-            // The shortest line has 10 bytes.
-            if limit < size + 10 {
-                break;
-            }
+/// Lines of other names, as far as whole lines go.
+fn fill<'a>(limit: usize, more: impl Iterator<Item = &'a (String, String)>, lines: &mut BTreeMap<&'a str, &'a str>) {
+    let length = |name: &str, letters: &str| "(w  ())\n".len() + name.len() + letters.len();
+    let mut size: usize = lines.iter().map(|(name, letters)| length(name, letters)).sum();
+    for (name, letters) in more {
+        let more = length(name, letters);
+        if size + more <= limit && !lines.contains_key(name.as_str()) {
+            lines.insert(name, letters);
+            size += more;
+        }
+        // The shortest line has 10 bytes.
+        if limit < size + 10 {
+            break;
         }
     }
+}
+
+fn written(lines: &BTreeMap<&str, &str>) -> String {
+    lines.iter().map(|(name, letters)| line(name, letters)).collect()
 }
 
 /// The texts that are appended in a word's own questions.

@@ -9,6 +9,7 @@ pub mod options;
 pub mod oracle;
 pub mod run;
 mod texts;
+pub mod timing;
 pub mod words;
 
 /// The library's functions, under the name that the benchmark knows them by.
