@@ -43,6 +43,7 @@ pub const QUESTIONS: &[Question] = &[
         port: |case| has_analysis(port::has_analysis(&case.word, &case.sheet)),
     },
     Question { name: "readings", oracle: |case| text(&answers::listing(&case.word, &case.sheet)), port: listing },
+    Question { name: "rows", oracle: |case| text(&answers::listing(&case.word, &case.sheet)), port: rows },
     Question {
         name: "origin",
         oracle: |case| oracle_line(case, "origin "),
@@ -228,28 +229,86 @@ fn decomposition(case: &Case) -> String {
     format!("decomposition {} {}{}", parts.root, parts.origin, parts.labels)
 }
 
-/// The port's candidates, written as the oracle does. A buffer is checked as that of the list is: what is not stored is left, and one
-/// that is a byte too short is refused with 8.
-fn candidates(case: &Case) -> String {
-    let old = [0xAA; 16 * STORED + 1];
-    let mut out = old;
-    let code = port::candidates(&case.word, &case.sheet, &mut out);
+/// The rows that the port stores by a call, `width` bytes each and at most `most`, or why there are none. Buffers are checked as
+/// that of the list's text is: what is not stored is left, one that is a byte too short is refused with 8, and one that just fits is
+/// filled.
+fn stored_rows(call: impl Fn(&mut [u8]) -> u64, width: usize, most: usize) -> Result<Vec<u8>, String> {
+    let old = vec![0xAA; most * width + 1];
+    let mut out = old.clone();
+    let code = call(&mut out);
     if code % 16 != 0 {
-        return if out == old { refusal(code) } else { format!("{} with {out:?}", refusal(code)) };
+        let refusal = if code == 7 { "(refused 7)".to_string() } else { refusal(code) };
+        return Err(if out == old { refusal } else { format!("{refusal} with {out:?}") });
     }
-    let count = (code / 16) as usize;
-    let size = count * STORED;
+    let size = (code / 16) as usize * width;
     if size >= old.len() || out[size..] != old[size..] {
-        return format!("{count} candidates, and more stored");
+        return Err(format!("{} rows, and more stored", code / 16));
     }
-    if count != 0 {
+    if size != 0 {
         let mut short = old[..size - 1].to_vec();
-        if port::candidates(&case.word, &case.sheet, &mut short) != 8 || short != old[..size - 1] {
-            return format!("not 8, or stored, in {} bytes", size - 1);
+        if call(&mut short) != 8 || short != old[..size - 1] {
+            return Err(format!("not 8, or stored, in {} bytes", size - 1));
         }
     }
+    let mut exact = old[..size].to_vec();
+    if call(&mut exact) != code || exact != out[..size] {
+        return Err(format!("not the same in {size} bytes"));
+    }
+    Ok(exact)
+}
+
+/// What the port stores of a reading.
+const ROW: usize = 18;
+
+/// The port's readings by their rows, written as the oracle does.
+fn rows(case: &Case) -> String {
+    let rows = match stored_rows(|out| port::readings(&case.word, &case.sheet, out), ROW, 64) {
+        Ok(rows) => rows,
+        Err(refusal) => return refusal + "\n",
+    };
+    let mut lines = format!("(list {})\n", rows.len() / ROW);
+    for stored in rows.chunks(ROW) {
+        lines += &row(case, stored).unwrap_or_else(|| format!("no reading: {stored:?}\n"));
+    }
+    lines
+}
+
+/// A row of a reading: stem and root read in the word, the labels in the source's tables.
+fn row(case: &Case, stored: &[u8]) -> Option<String> {
+    let number = |at: usize| u16::from_le_bytes([stored[at], stored[at + 1]]);
+    let stem = case.word.get(..usize::from(number(0)))?;
+    let root = stem.get(usize::from(number(2))..)?;
+    let used = (usize::from(stored[16]), 2 * usize::from(stored[17]));
+    let (prefixes, segments) = (&stored[6..8], &stored[8..16]);
+    if prefixes.get(used.0..)?.iter().chain(segments.get(used.1..)?).any(|&byte| byte != 0) {
+        return None;
+    }
+    let prefix = |&place: &u8| Some(shabda::tables::PREFIX_FORMS.get(usize::from(place))?.0.to_string());
+    let prefixes: Option<Vec<String>> = prefixes[..used.0].iter().map(prefix).collect();
+    let segment = |segment: &[u8]| {
+        let kind = ["particle", "case", "plural", "post", "comp"].get(usize::from(segment[1]))?;
+        Some(format!("({} {kind})", suffix_texts().nth(usize::from(segment[0]))?))
+    };
+    let segments: Option<Vec<String>> = segments[..used.1].chunks(2).map(segment).collect();
+    let (stem, root, prefixes, segments) = (text(stem), text(root), prefixes?.join(" "), segments?.join(" "));
+    Some(format!("(r {stem} {root} ({prefixes}) ({segments}) {})\n", number(4)))
+}
+
+/// The 25 texts of the suffix chains, in the order of the port's table.
+fn suffix_texts() -> impl Iterator<Item = &'static str> {
+    use shabda::tables::{CASE_MARKERS, PARTICLES, PLURAL_MARKERS};
+    PLURAL_MARKERS.iter().chain(CASE_MARKERS).chain(PARTICLES).copied()
+}
+
+/// The port's candidates, written as the oracle does.
+fn candidates(case: &Case) -> String {
+    let rows = match stored_rows(|out| port::candidates(&case.word, &case.sheet, out), STORED, 16) {
+        Ok(rows) => rows,
+        Err(refusal) => return refusal,
+    };
+    let count = rows.len() / STORED;
     let mut lines = vec![format!("candidates {count}")];
-    for stored in out[..size].chunks(STORED) {
+    for stored in rows.chunks(STORED) {
         let known = match stored[6] {
             1 => "w",
             2 => "h",

@@ -29,6 +29,15 @@ mod foreign {
             out: *mut u8,
             out_len: usize,
         ) -> u64;
+        /// 16 times the number of readings, stored in `out`, 18 bytes each; else as above, and `out` as it was.
+        pub fn yunthirel_readings(
+            word: *const u8,
+            word_len: usize,
+            sheet: *const u8,
+            sheet_len: usize,
+            out: *mut u8,
+            out_len: usize,
+        ) -> u64;
         /// The refusal as above; else 0 in the lowest four bits, then origin (2 bits) and source (2).
         pub fn yunthirel_origin(word: *const u8, word_len: usize, sheet: *const u8, sheet_len: usize) -> u64;
         /// The confidence of the origin; 0.0 for a refusal.
@@ -84,6 +93,13 @@ pub fn listing(word: &[u8], sheet: &[u8], out: &mut [u8]) -> u64 {
     // SAFETY: as above, and the third slice is lent for writing.
     unsafe {
         foreign::yunthirel_listing(word.as_ptr(), word.len(), sheet.as_ptr(), sheet.len(), out.as_mut_ptr(), out.len())
+    }
+}
+
+pub fn readings(word: &[u8], sheet: &[u8], out: &mut [u8]) -> u64 {
+    // SAFETY: as above.
+    unsafe {
+        foreign::yunthirel_readings(word.as_ptr(), word.len(), sheet.as_ptr(), sheet.len(), out.as_mut_ptr(), out.len())
     }
 }
 
