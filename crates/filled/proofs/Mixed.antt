@@ -1,9 +1,10 @@
 -- A list written over the front of another, element by element. Assumes nothing.
-use Prim.Native.Nat.{ℕ, zero, suc, _≤_, _<_}
+use Prim.Native.Nat.{ℕ, zero, suc, _-_, _≤_, _<_}
+use native.Mathlib.Omega.{arith}
 use native.Mathlib.Nat.{not-suc-le-zero, le-of-suc-le-suc}
-use mathlib.Core.Path.{_≡_, refl, ap}
+use mathlib.Core.Path.{_≡_, refl, ap, _∙_}
 use mathlib.Core.List.{List, [], _∷_, _++_}
-use lib.ListN.{length, take, drop, getD, set}
+use lib.ListN.{length, take, drop, getD, set, length-append, length-drop}
 
 module _ {A : Type 0} where
   -- the first i elements of xs, and then those of ys
@@ -22,3 +23,17 @@ module _ {A : Type 0} where
   mixed-length [] ys (suc i) h k = absurd (not-suc-le-zero h)
   mixed-length (x ∷ xs) [] (suc i) h k = absurd (not-suc-le-zero k)
   mixed-length (x ∷ xs) (y ∷ ys) (suc i) h k = ap suc (mixed-length xs ys i (le-of-suc-le-suc h) (le-of-suc-le-suc k))
+
+  -- where none are written, the others stay
+  pub untouched : (xs ys : List A) (i : ℕ) → i ≤ length xs → take i xs ≡ [] → mixed xs ys i ≡ ys
+  untouched xs ys zero h e = refl
+  untouched [] ys (suc i) h e = absurd (not-suc-le-zero h)
+  untouched (x ∷ xs) ys (suc i) h e =
+      let z : _≡_ {A = ℕ} (suc (length (take i xs))) 0 = ap (length {A = A}) e in
+      absurd (omega arith)
+
+  -- a list written whole over the front of one that is no shorter
+  pub over-length : (xs ys : List A) → length xs ≤ length ys → length (xs ++ drop (length xs) ys) ≡ length ys
+  over-length xs ys h =
+      let z : length (drop (length xs) ys) ≡ length ys - length xs = length-drop (length xs) ys in
+      length-append xs (drop (length xs) ys) ∙ omega arith

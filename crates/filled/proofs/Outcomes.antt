@@ -1,7 +1,5 @@
 -- What is said of the slice, from what is said of the list and how many rows it has. Assumes nothing.
-use Prim.Native.Nat.{ℕ, zero, suc, _≤_, _<_}
-use native.Mathlib.Nat.{not-suc-le-zero}
-use native.Mathlib.Omega.{arith}
+use Prim.Native.Nat.{ℕ, _≤_, _<_}
 use mathlib.Core.Path.{_≡_, refl, sym, _∙_, ap}
 use mathlib.Core.List.{List, [], _∷_, _++_}
 use lib.Dec.{leb}
@@ -17,13 +15,7 @@ use Rattle.analysis.specs.Answers.{saidOf, rowsGiven}
 use Rattle.filled.specs.declared.Filled.{Filled}
 use Rattle.filled.specs.declared.Filled.the-variants.{Wrote, Refused, TooMany, TooShort}
 use Rattle.filled.specs.Filled.{filledBy, filledOf, written, outputBy, outputOf}
-
-untouched : (rows ys : List Reading) (c : ℕ) → c ≤ length rows → take c rows ≡ [] → take c rows ++ drop c ys ≡ ys
-untouched rows ys zero h e = refl
-untouched [] ys (suc c) h e = absurd (not-suc-le-zero h)
-untouched (x ∷ rows) ys (suc c) h e =
-    let z : _≡_ {A = ℕ} (suc (length (take c rows))) 0 = ap (length {A = Reading}) e in
-    absurd (omega arith)
+use Rattle.filled.proofs.Mixed.{untouched}
 
 by-said : (w s : List ℕ) (room : ℕ) (x : Said) → x ≡ saidOf w s → filledBy x (length (rowsGiven w s)) room ≡ filledOf w s room
 unfolding filledOf

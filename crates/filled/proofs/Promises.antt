@@ -1,14 +1,14 @@
 -- What the entry promises, beyond its contract: the number that is given is the lowest that applies, that of the core call or 8; with any
 -- number the slice is left as it was; without one, the readings stand at its front and its old elements behind them; it is as long as
 -- before. Assumes nothing.
-use Prim.Native.Nat.{ℕ, suc, _-_, _≤_, _<_}
+use Prim.Native.Nat.{ℕ, suc, _≤_, _<_}
 use native.Mathlib.Omega.{arith}
 use mathlib.Core.Path.{_≡_, refl, sym, ap, subst, _∙_}
 use mathlib.Core.Bool.{Bool, true, false}
 use mathlib.Core.Logic.{_↔_}
 use mathlib.Core.List.{List, [], _∷_, _++_}
 use lib.Dec.{leb, ltb}
-use lib.ListN.{length, drop, getD, length-append, length-drop}
+use lib.ListN.{length, drop, getD}
 use borrow.Author.Tests.{leb-true, leb-false, lt-ltb, le-ltb, lt-leb}
 use Rattle.runs.specs.Runs.{pick}
 use Rattle.sheet.specs.Inputs.{inputsOf, numbersOf, numbersGiven, lowestNumbers}
@@ -22,11 +22,12 @@ use Rattle.ranking.specs.declared.Reading.{Reading}
 use Rattle.analysis.specs.declared.entry.Said.{Said}
 use Rattle.analysis.specs.declared.entry.Said.the-variants as said
 use Rattle.analysis.specs.Answers.{collected, listedRows, saidBy, rowsBy, saidOf, rowsGiven, saidNumbers}
+use Rattle.filled.proofs.Mixed.{over-length}
 use Rattle.filled.specs.declared.Filled.{Filled}
 use Rattle.filled.specs.declared.Filled.the-variants.{Wrote, Refused, TooMany, TooShort}
 use Rattle.filled.specs.Filled.{filledBy, filledOf, outputBy, outputOf, orElse, tooManyNumber, tooShortNumber, lowestOf, filledNumbers}
 
-some-number : (r : Refusal) (rest : List ℕ) → numbersOf r ≡ orElse (numbersOf r) rest
+pub some-number : (r : Refusal) (rest : List ℕ) → numbersOf r ≡ orElse (numbersOf r) rest
 some-number WordTooLong rest = refl
 some-number WordNotUtf8 rest = refl
 some-number WordForbidden rest = refl
@@ -51,16 +52,21 @@ lowest-number w s room =
     by-inputs (inputsOf w s) (collected w s) room
     ∙ ap (λ (l : List ℕ). orElse l (orElse (tooManyNumber (collected w s)) (tooShortNumber (length (listedRows (collected w s))) room))) (lowest w s)
 
-abbrev first : List ℕ → ℕ
+abbrev pub first : List ℕ → ℕ
 first l = getD l 0 0
 
-never-eight : (r : Refusal) → numbersOf r ≡ 8 ∷ [] → ⊥
+pub never-eight : (r : Refusal) → numbersOf r ≡ 8 ∷ [] → ⊥
 never-eight WordTooLong e = let z : _≡_ {A = ℕ} 1 8 = ap first e in absurd (omega arith)
 never-eight WordNotUtf8 e = let z : _≡_ {A = ℕ} 2 8 = ap first e in absurd (omega arith)
 never-eight WordForbidden e = let z : _≡_ {A = ℕ} 3 8 = ap first e in absurd (omega arith)
 never-eight SheetTooLong e = let z : _≡_ {A = ℕ} 4 8 = ap first e in absurd (omega arith)
 never-eight (SheetNoForm at) e = let z : _≡_ {A = ℕ} 5 8 = ap first e in absurd (omega arith)
 never-eight (SheetNotAbove at) e = let z : _≡_ {A = ℕ} 6 8 = ap first e in absurd (omega arith)
+
+pub never-none : (r : Refusal) → numbersOf r ≡ [] → ⊥
+never-none r e =
+    let z : _≡_ {A = ℕ} 0 1 = ap (length {A = ℕ}) (sym e ∙ some-number r (8 ∷ []) ∙ ap (λ (l : List ℕ). orElse l (8 ∷ [])) e) in
+    absurd (omega arith)
 
 is-eight : (x : Said) (n room : ℕ) (b : Bool) → leb n room ≡ b → filledNumbers (filledBy x n room) ≡ 8 ∷ [] → (x ≡ said.Listed) × (room < n)
 is-eight said.Listed n room true t e =
@@ -111,18 +117,13 @@ wrote w s old e =
     let f : filledBy (saidOf w s) (length (rowsGiven w s)) (length old) ≡ Wrote (length (rowsGiven w s)) = by (saidOf w s) n (length old) (leb n (length old)) refl e in
     (f, ap (λ (g : Filled). outputBy g (rowsGiven w s) old) f)
   where
-    some : (r : Refusal) → numbersOf r ≡ [] → ⊥
-    some r e =
-        let z : _≡_ {A = ℕ} 0 1 = ap (length {A = ℕ}) (sym e ∙ some-number r (8 ∷ []) ∙ ap (λ (l : List ℕ). orElse l (8 ∷ [])) e) in
-        absurd (omega arith)
-
     by : (x : Said) (n room : ℕ) (b : Bool) → leb n room ≡ b → filledNumbers (filledBy x n room) ≡ [] → filledBy x n room ≡ Wrote n
     by said.Listed n room true t e = rw t
     by said.Listed n room false t e =
         let eight : filledNumbers (filledBy said.Listed n room) ≡ 8 ∷ [] = rw t in
         let z : _≡_ {A = ℕ} 0 1 = ap (length {A = ℕ}) (sym e ∙ eight) in
         absurd (omega arith)
-    by (said.Refused r) n room b t e = absurd (some r e)
+    by (said.Refused r) n room b t e = absurd (never-none r e)
     by said.TooMany n room b t e = let z : _≡_ {A = ℕ} 1 0 = ap (length {A = ℕ}) e in absurd (omega arith)
 
 -- the slice is as long as before
@@ -130,13 +131,8 @@ pub same-length : (w s : List ℕ) (old : List Reading) → length (outputOf w s
 unfolding filledOf outputOf
 same-length w s old = by (saidOf w s) (rowsGiven w s) (leb (length (rowsGiven w s)) (length old)) refl
   where
-    joined : (rs : List Reading) → length rs ≤ length old → length (rs ++ drop (length rs) old) ≡ length old
-    joined rs h =
-        let z : length (drop (length rs) old) ≡ length old - length rs = length-drop (length rs) old in
-        length-append rs (drop (length rs) old) ∙ omega arith
-
     by : (x : Said) (rs : List Reading) (b : Bool) → leb (length rs) (length old) ≡ b → length (outputBy (filledBy x (length rs) (length old)) rs old) ≡ length old
-    by said.Listed rs true t = rw t (joined rs (leb-true (length rs) (length old) t))
+    by said.Listed rs true t = rw t (over-length rs old (leb-true (length rs) (length old) t))
     by said.Listed rs false t = rw t
     by (said.Refused r) rs b t = refl
     by said.TooMany rs b t = refl

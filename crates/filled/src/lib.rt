@@ -13,6 +13,8 @@ ghost use Rattle.ranking.specs.Places.{noReading};
 ghost use Rattle.analysis.specs.Answers.{rowsGiven};
 ghost use Rattle.filled.specs.Filled.{filledOf, written, outputOf};
 
+pub mod candidates;
+
 // What is said beside the slice: how many readings were written; word or sheet is refused; there are more than 64 readings; the slice
 // is shorter than the list. `filledNumbers` gives document 01's number of each.
 pub enum Filled {
