@@ -83,8 +83,8 @@ fn rows<T, const ROW: usize>(
     room: usize,
     of_row: impl Fn(&[u8; ROW]) -> Option<T>,
 ) -> Result<Vec<T>, String> {
-    let (code, bytes) = buffers::filled(ask, room, |code| ROW * (code / 16) as usize)?;
-    if code % 16 != 0 {
+    let (code, bytes) = buffers::filled(ask, room, |code| ROW * raw::above(code))?;
+    if raw::number(code) != 0 {
         return Err(refused(code));
     }
     let (rows, _) = bytes.as_chunks::<ROW>();
@@ -102,8 +102,8 @@ fn readings(functions: &Functions, word: &[u8], sheet: &[u8]) -> [String; 2] {
 
 fn listing(functions: &Functions, word: &[u8], sheet: &[u8]) -> String {
     let ask = |out: &mut [u8]| (functions.listing)(word, sheet, out);
-    match buffers::filled(ask, LISTING_ROOM, |code| (code / 16) as usize) {
-        Ok((code, bytes)) if code % 16 == 0 => text_of(&bytes),
+    match buffers::filled(ask, LISTING_ROOM, raw::above) {
+        Ok((code, bytes)) if raw::number(code) == 0 => text_of(&bytes),
         Ok((code, _)) => refused(code),
         Err(text) => text,
     }
