@@ -254,3 +254,31 @@ fn one_row_for_another() {
     let candidates: Fill = |word, sheet, out| swapped::<33>(raw::candidates(word, sheet, out), out);
     assert_eq!(seen(with(CANDIDATES, candidates)), ["candidates"]);
 }
+
+#[test]
+fn a_row_of_the_same_label() {
+    /// The label of both rows is निर्; their forms are निः and निर्.
+    fn other_form(code: u64, bytes: impl Iterator<Item = usize>, out: &mut [u8]) -> u64 {
+        for at in bytes {
+            if raw::number(code) == 0 && out.get(at) == Some(&20) {
+                out[at] = 3;
+            }
+        }
+        code
+    }
+    let readings: Fill = |word, sheet, out| {
+        let code = raw::readings(word, sheet, out);
+        other_form(code, (0..raw::above(code)).map(|row| 18 * row + 6), out)
+    };
+    assert_eq!(seen(with(READINGS, readings)), READINGS);
+    let candidates: Fill = |word, sheet, out| {
+        let code = raw::candidates(word, sheet, out);
+        other_form(code, (0..raw::above(code)).map(|row| 33 * row + 2), out)
+    };
+    assert_eq!(seen(with(CANDIDATES, candidates)), CANDIDATES);
+    let decompose: Fill = |word, sheet, out| {
+        let code = raw::decompose(word, sheet, out);
+        other_form(code, std::iter::once(2), out)
+    };
+    assert_eq!(seen(with(DECOMPOSITION, decompose)), DECOMPOSITION);
+}
