@@ -72,7 +72,7 @@ pub struct OriginDecision {
 impl OriginDecision {
     /// The decision that a code of [`raw::origin`] and the number of [`raw::confidence`] say; none for codes that say none.
     pub fn of_code(code: u64, confidence: f32) -> Option<OriginDecision> {
-        if code % 16 != 0 || code >> 8 != 0 {
+        if raw::number(code) != 0 || code >> 8 != 0 {
             return None;
         }
         let sources = [OriginSource::Override, OriginSource::Kosha, OriginSource::Heuristic, OriginSource::Unknown];
@@ -107,7 +107,7 @@ pub fn classify(word: &[u8], sheet: &[u8]) -> Result<Origin, Refusal> {
 
 /// The confidence is asked for where there is a decision.
 fn decision(code: u64, confidence: impl FnOnce() -> f32) -> Result<OriginDecision, Refusal> {
-    if code % 16 != 0 {
+    if raw::number(code) != 0 {
         return Err(refused("yunthirel_origin", INPUTS, code));
     }
     match OriginDecision::of_code(code, confidence()) {

@@ -22,7 +22,7 @@ pub struct ProgressiveAnalysis<'w, 's> {
 impl<'w, 's> ProgressiveAnalysis<'w, 's> {
     /// The form that a code of [`raw::progressive`] says for this word and sheet; none for codes that say no form of them.
     pub fn of_code(word: &'w [u8], sheet: &'s [u8], code: u64) -> Option<ProgressiveAnalysis<'w, 's>> {
-        if code % 16 != 15 {
+        if raw::number(code) != 15 {
             return None;
         }
         let (main_end, lemma_len) = ((code >> 5 & 0xFF) as usize, (code >> 13 & 0xFF) as usize);
@@ -58,7 +58,7 @@ pub fn analyze_progressive<'w, 's>(
     sheet: &'s [u8],
 ) -> Result<Option<ProgressiveAnalysis<'w, 's>>, Refusal> {
     let code = raw::progressive(word, sheet);
-    match code % 16 {
+    match raw::number(code) {
         0 if code == 0 => Ok(None),
         15 => match ProgressiveAnalysis::of_code(word, sheet, code) {
             Some(found) => Ok(Some(found)),

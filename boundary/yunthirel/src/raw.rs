@@ -25,6 +25,16 @@ pub const CANDIDATES_ROOM: usize = 16 * CANDIDATE_ROW;
 /// Bytes that are always enough for [`listing`].
 pub const LISTING_ROOM: usize = 35_466;
 
+/// The number in a code's lowest four bits.
+pub const fn number(code: u64) -> u8 {
+    (code & 15) as u8
+}
+
+/// What stands above the number: how many rows or bytes there are, or the faulty line's first byte.
+pub const fn above(code: u64) -> usize {
+    (code >> 4) as usize
+}
+
 mod foreign {
     // SAFETY: these are the library's declarations. Each function reads as many bytes at a pointer as the length after it says, and
     // writes nothing but what is lent as `*mut`, within its length; each is defined for all bytes and keeps no pointer.

@@ -153,8 +153,8 @@ pub fn has_supported_analysis(word: &[u8], sheet: &[u8]) -> Result<bool, Refusal
 /// ```
 pub fn write_readings(word: &[u8], sheet: &[u8], out: &mut [u8]) -> Result<usize, Refusal> {
     let code = raw::listing(word, sheet, out);
-    let size = (code / 16) as usize;
-    if code % 16 != 0 {
+    let size = raw::above(code);
+    if raw::number(code) != 0 {
         return Err(refused("yunthirel_listing", 1..=8, code));
     }
     if size > out.len() {
@@ -166,10 +166,10 @@ pub fn write_readings(word: &[u8], sheet: &[u8], out: &mut [u8]) -> Result<usize
 /// The number of rows that the library stores.
 fn stored(word: &[u8], sheet: &[u8], rows: &mut [u8; READINGS_ROOM]) -> Result<usize, Refusal> {
     let code = raw::readings(word, sheet, rows);
-    if code % 16 != 0 {
+    if raw::number(code) != 0 {
         return Err(refused("yunthirel_readings", LISTS, code));
     }
-    let count = (code / 16) as usize;
+    let count = raw::above(code);
     if count > READINGS_ROOM / READING_ROW {
         no_answer("yunthirel_readings", &format!("gave {count} rows"));
     }

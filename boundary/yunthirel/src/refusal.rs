@@ -1,6 +1,7 @@
 //! Why a word, a sheet or a buffer was refused.
 #![forbid(unsafe_code)]
 
+use crate::raw;
 use std::fmt;
 use std::ops::RangeInclusive;
 
@@ -32,14 +33,13 @@ pub enum Refusal {
 }
 
 /// No faulty line begins further on: a longer sheet is refused with 4.
-const SHEET_LIMIT: u64 = 65_536;
+const SHEET_LIMIT: usize = 65_536;
 
 impl Refusal {
     /// The refusal that a code of [`raw`](crate::raw) says, or none where it says no refusal.
     pub fn of_code(code: u64) -> Option<Refusal> {
-        let place = code / 16;
-        let start = place as usize;
-        match (code % 16, place) {
+        let start = raw::above(code);
+        match (raw::number(code), start) {
             (1, 0) => Some(Refusal::WordTooLong),
             (2, 0) => Some(Refusal::WordNotUtf8),
             (3, 0) => Some(Refusal::WordForbidden),
@@ -117,7 +117,7 @@ mod tests {
 
     #[test]
     fn codes_that_are_no_refusal() {
-        for code in [0, 9, 15, 16, 1 + 16, 4 + 16, 7 + 16, 8 + 16, 5 + 16 * SHEET_LIMIT, u64::MAX] {
+        for code in [0, 9, 15, 16, 1 + 16, 4 + 16, 7 + 16, 8 + 16, 5 + 16 * SHEET_LIMIT as u64, u64::MAX] {
             assert_eq!(Refusal::of_code(code), None, "{code}");
         }
     }

@@ -150,10 +150,10 @@ pub fn has_known_root(word: &[u8], sheet: &[u8]) -> Result<bool, Refusal> {
 /// The number of rows that the library stores.
 fn stored(word: &[u8], sheet: &[u8], rows: &mut [u8; CANDIDATES_ROOM]) -> Result<usize, Refusal> {
     let code = raw::candidates(word, sheet, rows);
-    if code % 16 != 0 {
+    if raw::number(code) != 0 {
         return Err(refused("yunthirel_candidates", INPUTS, code));
     }
-    let count = (code / 16) as usize;
+    let count = raw::above(code);
     if count > CANDIDATES_ROOM / CANDIDATE_ROW {
         no_answer("yunthirel_candidates", &format!("gave {count} rows"));
     }

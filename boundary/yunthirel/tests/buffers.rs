@@ -7,11 +7,14 @@ use yunthirel::raw;
 
 type Ask = fn(&[u8], &[u8], &mut [u8]) -> u64;
 
-/// The functions that fill a buffer, each with the bytes that an answer with this code has.
-const FILLING: [(Ask, fn(u64) -> usize); 4] = [
-    (raw::readings, |code| 18 * (code / 16) as usize),
-    (raw::listing, |code| (code / 16) as usize),
-    (raw::candidates, |code| 33 * (code / 16) as usize),
+/// The bytes that an answer with this code has.
+type SizeOf = fn(u64) -> usize;
+
+/// The functions that fill a buffer.
+const FILLING: [(Ask, SizeOf); 4] = [
+    (raw::readings, |code| 18 * raw::above(code)),
+    (raw::listing, |code| raw::above(code)),
+    (raw::candidates, |code| 33 * raw::above(code)),
     (raw::decompose, |_| 33),
 ];
 
@@ -43,7 +46,7 @@ fn an_answer_fills_its_own_bytes_alone() {
     for (word, sheet) in cases() {
         for (ask, size_of) in FILLING {
             let (code, bytes, written) = filled(ask, word.as_bytes(), &sheet, 40_000);
-            assert_eq!(code % 16, 0, "{word}");
+            assert_eq!(raw::number(code), 0, "{word}");
             assert_eq!(written, size_of(code), "{word}");
             // A buffer that just fits has the same bytes.
             assert_eq!(filled(ask, word.as_bytes(), &sheet, written), (code, bytes, written), "{word}");

@@ -2,7 +2,7 @@
 //! memory sees a byte past them.
 
 use std::sync::LazyLock;
-use yunthirel::raw::LISTING_ROOM;
+use yunthirel::raw::{self, LISTING_ROOM};
 
 /// Bytes past the largest answer.
 const MORE: usize = 64;
@@ -21,7 +21,7 @@ pub fn filled(
     let before = &OLD[..room + MORE];
     let mut out = before.to_vec();
     let code = ask(&mut out);
-    if code % 16 != 0 {
+    if raw::number(code) != 0 {
         if out != before {
             return Err(format!("refused with {code:#x} and wrote"));
         }

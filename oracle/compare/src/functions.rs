@@ -2,6 +2,7 @@
 
 use crate::{Answers, buffers, texts};
 use blocks::Case;
+use shabda::tables::PREFIX_FORMS;
 use yunthirel::raw::{self, CANDIDATE_ROW, CANDIDATES_ROOM, LISTING_ROOM, READING_ROW, READINGS_ROOM};
 use yunthirel::{Morpheme, OriginDecision, ProgressiveAnalysis, Reading, Refusal, RootCandidate};
 
@@ -83,18 +84,34 @@ fn rows<T, const ROW: usize>(
     room: usize,
     of_row: impl Fn(&[u8; ROW]) -> Option<T>,
 ) -> Result<Vec<T>, String> {
-    let (code, bytes) = buffers::filled(ask, room, |code| ROW * (code / 16) as usize)?;
-    if code % 16 != 0 {
+    let (code, bytes) = buffers::filled(ask, room, |code| ROW * raw::above(code))?;
+    if raw::number(code) != 0 {
         return Err(refused(code));
     }
     let (rows, _) = bytes.as_chunks::<ROW>();
     rows.iter().map(|row| of_row(row).ok_or_else(|| format!("no answer: {row:?}"))).collect()
 }
 
+/// Whether these rows' forms, one after the other, are what stands before the root. Some labels have several rows, so that the oracle's
+/// labels alone do not tell which row it is.
+fn are_forms(rows: &[u8], before: &[u8]) -> bool {
+    rows.iter().flat_map(|&row| PREFIX_FORMS[usize::from(row)].1.bytes()).eq(before.iter().copied())
+}
+
+/// The same of a candidate or a decomposition.
+fn is_after_form(word: &[u8], row: &[u8; CANDIDATE_ROW]) -> bool {
+    are_forms(&row[2..2 + usize::from(row[3])], &word[..usize::from(row[0])])
+}
+
 /// The list, and its first row.
 fn readings(functions: &Functions, word: &[u8], sheet: &[u8]) -> [String; 2] {
     let ask = |out: &mut [u8]| (functions.readings)(word, sheet, out);
-    match rows::<_, READING_ROW>(ask, READINGS_ROOM, |row| Reading::of_row(word, row)) {
+    let of_row = |row: &[u8; READING_ROW]| {
+        let prefixes = usize::from(row[16]);
+        let root = usize::from(u16::from_le_bytes([row[2], row[3]]));
+        Reading::of_row(word, row).filter(|_| are_forms(&row[6..6 + prefixes], &word[..root]))
+    };
+    match rows(ask, READINGS_ROOM, of_row) {
         Ok(list) => [texts::listing(&list), texts::best_analysis(list.first())],
         Err(text) => [text.clone(), text],
     }
@@ -102,8 +119,8 @@ fn readings(functions: &Functions, word: &[u8], sheet: &[u8]) -> [String; 2] {
 
 fn listing(functions: &Functions, word: &[u8], sheet: &[u8]) -> String {
     let ask = |out: &mut [u8]| (functions.listing)(word, sheet, out);
-    match buffers::filled(ask, LISTING_ROOM, |code| (code / 16) as usize) {
-        Ok((code, bytes)) if code % 16 == 0 => text_of(&bytes),
+    match buffers::filled(ask, LISTING_ROOM, raw::above) {
+        Ok((code, bytes)) if raw::number(code) == 0 => text_of(&bytes),
         Ok((code, _)) => refused(code),
         Err(text) => text,
     }
@@ -118,7 +135,8 @@ pub fn text_of(bytes: &[u8]) -> String {
 /// The candidates, the first of them, and whether there is one.
 fn candidates(functions: &Functions, word: &[u8], sheet: &[u8]) -> [String; 3] {
     let ask = |out: &mut [u8]| (functions.candidates)(word, sheet, out);
-    match rows::<_, CANDIDATE_ROW>(ask, CANDIDATES_ROOM, |row| RootCandidate::of_row(word, row)) {
+    let of_row = |row: &[u8; CANDIDATE_ROW]| RootCandidate::of_row(word, row).filter(|_| is_after_form(word, row));
+    match rows(ask, CANDIDATES_ROOM, of_row) {
         Ok(list) => [
             texts::candidates(&list),
             texts::best_root(list.first()),
@@ -132,9 +150,9 @@ fn decomposition(functions: &Functions, word: &[u8], sheet: &[u8]) -> String {
     let ask = |out: &mut [u8]| (functions.decompose)(word, sheet, out);
     match buffers::filled(ask, CANDIDATE_ROW, |_| CANDIDATE_ROW) {
         Ok((0, bytes)) => {
-            let row = bytes[..].try_into().expect("the bytes of one row");
-            Morpheme::of_row(word, row)
-                .map_or_else(|| format!("no answer: {row:?}"), |found| texts::decomposition(&found))
+            let row: &[u8; CANDIDATE_ROW] = bytes[..].try_into().expect("the bytes of one row");
+            let found = Morpheme::of_row(word, row).filter(|_| is_after_form(word, row));
+            found.map_or_else(|| format!("no answer: {row:?}"), |found| texts::decomposition(&found))
         }
         Ok((code, _)) => refused(code),
         Err(text) => text,

@@ -44,8 +44,8 @@ fn every_question_can_differ() {
 }
 
 /// A number that is another's.
-fn other(code: u64, from: u64, to: u64) -> u64 {
-    if code % 16 == from { code - from + to } else { code }
+fn other(code: u64, from: u8, to: u8) -> u64 {
+    if raw::number(code) == from { code - u64::from(from) + u64::from(to) } else { code }
 }
 
 #[test]
@@ -58,7 +58,7 @@ fn wrong_codes() {
             "check_sheet",
             Functions {
                 check_sheet: |sheet| match raw::check_sheet(sheet) {
-                    code if code % 16 == 5 => code + 16,
+                    code if raw::number(code) == 5 => code + 16,
                     code => code,
                 },
                 ..LIBRARY
@@ -80,7 +80,7 @@ fn wrong_codes() {
             "origin",
             Functions {
                 origin: |word, sheet| match raw::origin(word, sheet) {
-                    code if code % 16 == 0 => code ^ 64,
+                    code if raw::number(code) == 0 => code ^ 64,
                     code => code,
                 },
                 ..LIBRARY
@@ -106,7 +106,7 @@ fn wrong_codes() {
 /// The code of a progressive form, changed.
 fn form(word: &[u8], sheet: &[u8], change: fn(u64) -> u64) -> u64 {
     match raw::progressive(word, sheet) {
-        code if code % 16 == 15 => change(code),
+        code if raw::number(code) == 15 => change(code),
         code => code,
     }
 }
@@ -137,25 +137,23 @@ fn all_see(plants: [(&[&str], Fill); 4]) {
 #[test]
 fn a_byte_past_the_answer() {
     fn past(code: u64, size: usize, out: &mut [u8]) -> u64 {
-        if code % 16 == 0 {
-            if let Some(byte) = out.get_mut(size) {
-                *byte ^= 1;
-            }
+        if let (0, Some(byte)) = (raw::number(code), out.get_mut(size)) {
+            *byte ^= 1;
         }
         code
     }
     all_see([
         (READINGS, |word, sheet, out| {
             let code = raw::readings(word, sheet, out);
-            past(code, 18 * (code / 16) as usize, out)
+            past(code, 18 * raw::above(code), out)
         }),
         (LISTING, |word, sheet, out| {
             let code = raw::listing(word, sheet, out);
-            past(code, (code / 16) as usize, out)
+            past(code, raw::above(code), out)
         }),
         (CANDIDATES, |word, sheet, out| {
             let code = raw::candidates(word, sheet, out);
-            past(code, 33 * (code / 16) as usize, out)
+            past(code, 33 * raw::above(code), out)
         }),
         (DECOMPOSITION, |word, sheet, out| {
             let code = raw::decompose(word, sheet, out);
@@ -167,7 +165,7 @@ fn a_byte_past_the_answer() {
 #[test]
 fn a_byte_after_a_refusal() {
     fn first(code: u64, out: &mut [u8]) -> u64 {
-        if let (1..=7, Some(byte)) = (code % 16, out.first_mut()) {
+        if let (1..=7, Some(byte)) = (raw::number(code), out.first_mut()) {
             *byte ^= 1;
         }
         code
@@ -227,15 +225,15 @@ fn a_byte_of_the_answer_not_written() {
     fn kept(ask: Fill, size: fn(u64) -> usize, word: &[u8], sheet: &[u8], out: &mut [u8]) -> u64 {
         let before = out.to_vec();
         let code = ask(word, sheet, out);
-        if let (0, Some(last)) = (code % 16, size(code).checked_sub(1)) {
+        if let (0, Some(last)) = (raw::number(code), size(code).checked_sub(1)) {
             out[last] = before[last];
         }
         code
     }
     all_see([
-        (READINGS, |word, sheet, out| kept(raw::readings, |code| 18 * (code / 16) as usize, word, sheet, out)),
-        (LISTING, |word, sheet, out| kept(raw::listing, |code| (code / 16) as usize, word, sheet, out)),
-        (CANDIDATES, |word, sheet, out| kept(raw::candidates, |code| 33 * (code / 16) as usize, word, sheet, out)),
+        (READINGS, |word, sheet, out| kept(raw::readings, |code| 18 * raw::above(code), word, sheet, out)),
+        (LISTING, |word, sheet, out| kept(raw::listing, raw::above, word, sheet, out)),
+        (CANDIDATES, |word, sheet, out| kept(raw::candidates, |code| 33 * raw::above(code), word, sheet, out)),
         (DECOMPOSITION, |word, sheet, out| kept(raw::decompose, |_| 33, word, sheet, out)),
     ]);
 }
@@ -244,8 +242,8 @@ fn a_byte_of_the_answer_not_written() {
 fn one_row_for_another() {
     /// The last two rows in each other's place: their scores alone may be the same.
     fn swapped<const ROW: usize>(code: u64, out: &mut [u8]) -> u64 {
-        let count = (code / 16) as usize;
-        if code % 16 == 0 && count > 2 {
+        let count = raw::above(code);
+        if raw::number(code) == 0 && count > 2 {
             let (rows, _) = out.as_chunks_mut::<ROW>();
             rows.swap(count - 2, count - 1);
         }
@@ -255,4 +253,32 @@ fn one_row_for_another() {
     assert_eq!(seen(with(READINGS, readings)), ["readings"]);
     let candidates: Fill = |word, sheet, out| swapped::<33>(raw::candidates(word, sheet, out), out);
     assert_eq!(seen(with(CANDIDATES, candidates)), ["candidates"]);
+}
+
+#[test]
+fn a_row_of_the_same_label() {
+    /// The label of both rows is निर्; their forms are निः and निर्.
+    fn other_form(code: u64, bytes: impl Iterator<Item = usize>, out: &mut [u8]) -> u64 {
+        for at in bytes {
+            if raw::number(code) == 0 && out.get(at) == Some(&20) {
+                out[at] = 3;
+            }
+        }
+        code
+    }
+    let readings: Fill = |word, sheet, out| {
+        let code = raw::readings(word, sheet, out);
+        other_form(code, (0..raw::above(code)).map(|row| 18 * row + 6), out)
+    };
+    assert_eq!(seen(with(READINGS, readings)), READINGS);
+    let candidates: Fill = |word, sheet, out| {
+        let code = raw::candidates(word, sheet, out);
+        other_form(code, (0..raw::above(code)).map(|row| 33 * row + 2), out)
+    };
+    assert_eq!(seen(with(CANDIDATES, candidates)), CANDIDATES);
+    let decompose: Fill = |word, sheet, out| {
+        let code = raw::decompose(word, sheet, out);
+        other_form(code, std::iter::once(2), out)
+    };
+    assert_eq!(seen(with(DECOMPOSITION, decompose)), DECOMPOSITION);
 }
