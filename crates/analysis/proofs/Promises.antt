@@ -3,12 +3,13 @@
 -- the rows are every reading exactly once, in rank order, with its segments and score, and nothing besides; there are none exactly where
 -- there is no reading; two sheets alike in their replies to the word's own questions give the same. What a reading is, is said without
 -- a search in paths/specs. Assumes nothing.
-use Prim.Native.Nat.{ℕ, suc}
+use Prim.Native.Nat.{ℕ, suc, _≤_}
 use native.Mathlib.Omega.{arith}
 use mathlib.Core.Path.{_≡_, refl, sym, ap, subst, _∙_}
 use mathlib.Core.Logic.{_↔_}
 use mathlib.Core.List.{List, [], _∷_, map, List·Memᴰ, List·Memᴰ·head, List·Memᴰ·not-nil}
 use lib.ListN.{length}
+use Rattle.text.specs.Characters.{chars}
 use Rattle.text.specs.Word.{wordCheck}
 use Rattle.text.specs.declared.word.WordCheck.the-variants as words
 use Rattle.sheet.specs.Lines.{sheetCheck}
@@ -19,12 +20,14 @@ use Rattle.sheet.specs.declared.inputs.Inputs.the-variants as inputs
 use Rattle.sheet.specs.declared.inputs.Refusal.{Refusal}
 use Rattle.sheet.specs.Replies.{reply, Alike}
 use Rattle.sheet.proofs.Refusals.{accepted-both, lowest}
-use Rattle.ranking.specs.Lists.{Rows, rows, over}
+use Rattle.ranking.specs.Lists.{listLimit, Rows, rows, over}
 use Rattle.ranking.specs.declared.Reading.{Reading}
 use Rattle.paths.specs.Chains.{Route}
 use Rattle.paths.specs.Readings.{Parts, partsOf, IsReading, readingOf}
 use Rattle.paths.specs.Counted.{AtLeast}
 use Rattle.paths.specs.Questions.{Own}
+use Rattle.paths.specs.Walk.{wordWalk}
+use Rattle.paths.proofs.Bounded.{rowCount, all-fit}
 use Rattle.paths.proofs.Promises as found
 use Rattle.paths.proofs.Promises.{Listed}
 use Rattle.analysis.specs.declared.entry.Said.{Said}
@@ -40,6 +43,19 @@ seven-over over e = refl
 listed-rows : (c : Rows) → byRows c ≡ said.Listed → c ≡ rows (listedRows c)
 listed-rows (rows rs) e = refl
 listed-rows over e = let z : _≡_ {A = ℕ} 1 0 = ap (λ (x : Said). length (saidNumbers x)) e in absurd (omega arith)
+
+-- no list has more than 64 readings
+pub rows-few : (w s : List ℕ) → length (rowsGiven w s) ≤ listLimit
+unfolding rowsGiven
+rows-few w s = by (inputsOf w s)
+  where
+    counted : (c : Rows) → length (listedRows c) ≡ rowCount c
+    counted (rows rs) = refl
+    counted over = refl
+
+    by : (i : Inputs) → length (rowsBy i (collected w s)) ≤ listLimit
+    by inputs.Accepted = let n = counted (collected w s) in let h = all-fit w (rows []) (wordWalk (reply s) (chars w) w) (omega arith) in omega arith
+    by (inputs.Refused r) = omega arith
 
 module _ (w s : List ℕ) (aw : wordCheck w ≡ words.Accepted) (ah : sheetCheck s ≡ sheets.Accepted) where
   said-is : saidOf w s ≡ byRows (collected w s)

@@ -11,14 +11,9 @@ use Rattle.runs.specs.Runs.{pick}
 use Rattle.text.specs.Utf8.{isUtf8}
 use Rattle.text.specs.Names.{holdsForbidden}
 use Rattle.text.specs.Word.{wordLimit, wordCheck}
-use Rattle.text.specs.declared.word.WordCheck.{WordCheck}
 use Rattle.text.specs.declared.word.WordCheck.the-variants as words
-use Rattle.sheet.specs.Lines.{sheetCheck}
-use Rattle.sheet.specs.Inputs.{bySheet, byWordThen, inputsOf}
-use Rattle.sheet.specs.declared.inputs.Inputs.{Inputs}
-use Rattle.sheet.specs.declared.inputs.Inputs.the-variants as inputs
 
-word-short : (w : List ℕ) → wordCheck w ≡ words.Accepted → length w ≤ wordLimit
+pub word-short : (w : List ℕ) → wordCheck w ≡ words.Accepted → length w ≤ wordLimit
 unfolding wordCheck
 word-short w e = go (ltb wordLimit (length w)) refl e
   where
@@ -27,13 +22,3 @@ word-short w e = go (ltb wordLimit (length w)) refl e
         → length w ≤ wordLimit
     go true t q = let z : _≡_ {A = ℕ} 0 1 = cc in absurd (omega arith)
     go false t q = ltb-false wordLimit (length w) t
-
-word-accepted : (x : WordCheck) (i : Inputs) → byWordThen x i ≡ inputs.Accepted → x ≡ words.Accepted
-word-accepted words.Accepted i e = refl
-word-accepted words.TooLong i e = cc
-word-accepted words.NotUtf8 i e = cc
-word-accepted words.Forbidden i e = cc
-
-pub accepted-short : (word sheet : List ℕ) → inputsOf word sheet ≡ inputs.Accepted → length word ≤ wordLimit
-unfolding inputsOf
-accepted-short word sheet e = word-short word (word-accepted (wordCheck word) (bySheet (sheetCheck sheet)) e)

@@ -2,10 +2,9 @@
 use crate::Morpheme;
 use crate::Parts;
 use crate::decompose_in;
+use lookup::lines::prepare;
 use lookup::starts::Start;
-use lookup::starts::fill_starts;
 use sheet::inputs::Inputs;
-use sheet::inputs::check_inputs;
 use tables::origins::Origin;
 ghost use mathlib.Core.Path.{_≡_};
 ghost use Rattle.decomposition.specs.Answers.{noMorpheme, morphemeAnswer};
@@ -38,19 +37,18 @@ fn no_morpheme() -> Morpheme
 pub fn decompose(word: &[u8], sheet: &[u8]) -> MorphemeAnswer
     ensures { λ r. ⌜ r ≡ morphemeAnswer (now (word .entry)) (now (sheet .entry)) ⌝ }
 {
-    let inputs = check_inputs(word, sheet);
+    let mut starts: [Start; 6554] = [0; 6554];
+    let ready = prepare(word, sheet, &mut starts);
+    let lines = ready.lines;
+    let inputs = ready.inputs;
     match inputs {
         Inputs::Refused(refusal) => MorphemeAnswer {
             inputs: Inputs::Refused(refusal),
             morpheme: no_morpheme(),
         },
-        Inputs::Accepted => {
-            let mut starts: [Start; 6554] = [0; 6554];
-            let n = fill_starts(sheet, &mut starts);
-            MorphemeAnswer {
-                inputs: Inputs::Accepted,
-                morpheme: decompose_in(sheet, &starts[..n], word),
-            }
-        }
+        Inputs::Accepted => MorphemeAnswer {
+            inputs: Inputs::Accepted,
+            morpheme: decompose_in(sheet, &starts[..lines], word),
+        },
     }
 }

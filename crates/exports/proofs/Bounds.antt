@@ -7,13 +7,12 @@ use mathlib.Core.List.{List, []}
 use lib.ListN.{length, drop}
 use lib.Dec.{ltb, leb}
 use native.Mathlib.Omega.{arith}
-use borrow.Author.Tests.{ltb-false, leb-true}
+use borrow.Author.Tests.{leb-true}
 use Rattle.runs.specs.Runs.{pick}
 use Rattle.runs.proofs.Begins.{and-left, and-right}
 use Rattle.text.specs.Utf8.{isUtf8}
 use Rattle.text.specs.Names.{holdsForbidden}
-use Rattle.text.specs.Word.{wordLimit, wordCheck}
-use Rattle.text.specs.declared.word.WordCheck.the-variants as words
+use Rattle.text.specs.Word.{wordLimit}
 use Rattle.sheet.specs.Forms.{isName, key, keyOf}
 use Rattle.sheet.specs.Lines.{sheetLimit, sheetCheck, startsOf, lineAt}
 use Rattle.sheet.specs.Replies.{reply}
@@ -50,19 +49,10 @@ use Rattle.listing.specs.Printed.{saidText, readingsText, outcomeBy, outcomeOf}
 use Rattle.listing.specs.declared.entry.Outcome.{Outcome as ListOutcome}
 use Rattle.listing.specs.declared.Written.the-variants.{Bytes, TooShort}
 use Rattle.exports.specs.Codes.{Small}
+use Rattle.decomposition.proofs.Short.{word-short}
 use Rattle.origin.specs.Answers.{decisionIf, decisionAnswer}
 use Rattle.origin.specs.declared.entries.DecisionAnswer.{DecisionAnswer}
 use Rattle.origin.specs.declared.entries.DecisionAnswer.the-variants as decisions
-
--- a word that is accepted is short enough
-word-short : (w : List ℕ) → wordCheck w ≡ words.Accepted → length w ≤ wordLimit
-unfolding wordCheck
-word-short w h = by (ltb wordLimit (length w)) refl h
-  where
-    by : (b : Bool) → ltb wordLimit (length w) ≡ b →
-        pick b words.TooLong (pick (not (isUtf8 w)) words.NotUtf8 (pick (holdsForbidden w) words.Forbidden words.Accepted)) ≡ words.Accepted → length w ≤ wordLimit
-    by true e k = let z : _≡_ {A = ℕ} 0 1 = cc in absurd (omega arith)
-    by false e k = ltb-false wordLimit (length w) e
 
 is-name-short : (x : List ℕ) → isName x ≡ true → length x ≤ 210
 unfolding isName

@@ -1,3 +1,4 @@
 pub mod Bounds
 pub mod Put
 pub mod Widths
+pub mod Enough

@@ -75,7 +75,7 @@ outcomeCode (outcomes.Refused r) = coded (outcomeNumbers (outcomes.Refused r))
 outcomeCode outcomes.TooMany = coded (outcomeNumbers outcomes.TooMany)
 outcomeCode outcomes.TooShort = coded (outcomeNumbers outcomes.TooShort)
 
--- so few bytes, or so near a faulty line, that the code fits
+-- the bytes, or the place of the faulty line, are small enough for the code
 abbrev pub Small : Outcome → Type 0
 Small (outcomes.Bytes n) = n ≤ listingRoom
 Small (outcomes.Refused r) = Placed r

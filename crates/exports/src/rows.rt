@@ -1,4 +1,5 @@
-// The list of readings as rows of 18 bytes, stored in a lent buffer: the struct of the C header, on a machine whose low byte is first.
+// The list of readings as rows of 18 bytes, stored in a lent buffer. A row lies as a struct of C does where the low byte is first: three
+// numbers of 16 bits, stem, root and score; two prefix rows; four pairs of a suffix row and the number of its kind; the two counts.
 use crate::refusal_code;
 use analysis::entry::Said;
 use analysis::entry::analyze_affixes;
@@ -42,16 +43,16 @@ fn put_reading(r: Reading, out: &mut [u8])
     requires { ⌜ 18 ≤ length (now out) ⌝ }
     ensures { λ _. ⌜ now (out .exit) ≡ readingBytes r ++ drop 18 (now (out .entry)) ⌝ }
 {
-    let p = r.prefixes;
-    let s = r.segments;
-    let a = s[0];
-    let b = s[1];
-    let c = s[2];
-    let d = s[3];
-    let a_kind = a.kind;
-    let b_kind = b.kind;
-    let c_kind = c.kind;
-    let d_kind = d.kind;
+    let prefixes = r.prefixes;
+    let segments = r.segments;
+    let first = segments[0];
+    let second = segments[1];
+    let third = segments[2];
+    let fourth = segments[3];
+    let first_kind = first.kind;
+    let second_kind = second.kind;
+    let third_kind = third.kind;
+    let fourth_kind = fourth.kind;
     let all = [
         low(r.stem),
         high(r.stem),
@@ -59,16 +60,16 @@ fn put_reading(r: Reading, out: &mut [u8])
         high(r.root),
         low(r.score),
         high(r.score),
-        p[0],
-        p[1],
-        a.label,
-        kind_number(a_kind),
-        b.label,
-        kind_number(b_kind),
-        c.label,
-        kind_number(c_kind),
-        d.label,
-        kind_number(d_kind),
+        prefixes[0],
+        prefixes[1],
+        first.label,
+        kind_number(first_kind),
+        second.label,
+        kind_number(second_kind),
+        third.label,
+        kind_number(third_kind),
+        fourth.label,
+        kind_number(fourth_kind),
         r.prefix_count,
         r.suffix_count,
     ];

@@ -21,7 +21,7 @@ use Rattle.roots.specs.Lists.{rootLimit}
 use Rattle.roots.specs.Candidates.{candidates}
 use Rattle.roots.specs.Answers.{rootsIf, rootsFor}
 use Rattle.roots.specs.declared.RootCandidate.{RootCandidate}
-use Rattle.roots.proofs.Bounded.{candidates-few}
+use Rattle.roots.proofs.Bounded.{roots-few}
 use Rattle.filled.specs.Filled.{orElse, tooShortNumber}
 use Rattle.filled.specs.FilledRoots.{rootsFilledBy, rootsFilled, rootsOutputBy, rootsOutput, rootsLowest, rootsNumbers}
 use Rattle.filled.specs.declared.candidates.FilledRoots.{FilledRoots}
@@ -41,15 +41,6 @@ lowest-number w s room = by (inputsOf w s) ∙ ap (λ (l : List ℕ). orElse l (
     by : (i : Inputs) → rootsNumbers (rootsFilledBy i (length (rootsIf i w s)) room) ≡ orElse (numbersGiven i) (tooShortNumber (length (candidates (reply s) w)) room)
     by inputs.Accepted = by-room (length (candidates (reply s) w)) room (leb (length (candidates (reply s) w)) room) refl
     by (inputs.Refused r) = some-number r _
-
--- a word has at most 16 candidates
-pub few : (w s : List ℕ) → length (rootsFor w s) ≤ rootLimit
-unfolding rootsFor
-few w s = by (inputsOf w s)
-  where
-    by : (i : Inputs) → length (rootsIf i w s) ≤ rootLimit
-    by inputs.Accepted = candidates-few (reply s) w
-    by (inputs.Refused r) = omega arith
 
 is-eight : (i : Inputs) (n room : ℕ) (b : Bool) → leb n room ≡ b → rootsNumbers (rootsFilledBy i n room) ≡ 8 ∷ [] → (i ≡ inputs.Accepted) × (room < n)
 is-eight inputs.Accepted n room true t e =
@@ -73,7 +64,7 @@ eight-exactly w s room = (
 pub enough : (w s : List ℕ) (room : ℕ) → rootLimit ≤ room → rootsNumbers (rootsFilled w s room) ≡ 8 ∷ [] → ⊥
 enough w s room h e =
     let short : room < length (rootsFor w s) = eight-exactly w s room .0 e .1 in
-    let n = few w s in
+    let n = roots-few w s in
     absurd (omega arith)
 
 -- with any number, the slice is left as it was

@@ -3,11 +3,10 @@ ghost use mathlib.Core.Path.{_≡_};
 ghost use Rattle.origin.specs.Answers.{decisionAnswer, originOnly};
 use crate::OriginDecision;
 use crate::classify_in;
+use lookup::lines::prepare;
 use lookup::starts::Start;
-use lookup::starts::fill_starts;
 use sheet::inputs::Inputs;
 use sheet::inputs::Refusal;
-use sheet::inputs::check_inputs;
 use tables::origins::Origin;
 
 // The answer of `classify_with_provenance`.
@@ -26,14 +25,13 @@ pub enum OriginAnswer {
 pub fn classify_with_provenance(word: &[u8], sheet: &[u8]) -> DecisionAnswer
     ensures { λ r. ⌜ r ≡ decisionAnswer (now (word .entry)) (now (sheet .entry)) ⌝ }
 {
-    let inputs = check_inputs(word, sheet);
+    let mut starts: [Start; 6554] = [0; 6554];
+    let ready = prepare(word, sheet, &mut starts);
+    let lines = ready.lines;
+    let inputs = ready.inputs;
     match inputs {
         Inputs::Refused(refusal) => DecisionAnswer::Refused(refusal),
-        Inputs::Accepted => {
-            let mut starts: [Start; 6554] = [0; 6554];
-            let n = fill_starts(sheet, &mut starts);
-            DecisionAnswer::Decided(classify_in(sheet, &starts[..n], word))
-        }
+        Inputs::Accepted => DecisionAnswer::Decided(classify_in(sheet, &starts[..lines], word)),
     }
 }
 

@@ -1,12 +1,13 @@
--- The list of readings (crates/ranking): up to 64 readings stay, put in one by one (`few-stay`), and more are `over` (`many-over`).
--- Cited by Over, which says when a word's readings are too many. Assumes nothing.
+-- The list of readings (crates/ranking): up to 64 readings stay, put in one by one (`few-stay`), more are `over` (`many-over`), and none
+-- lists more (`all-fit`). Cited by Over, which says when a word's readings are too many, and for the room that a list needs. Assumes nothing.
 use Prim.Native.Nat.{ℕ, suc, _+_, _≤_, _<_}
 use native.Mathlib.Omega.{arith}
 use mathlib.Core.Path.{_≡_, refl, ap, _∙_}
 use mathlib.Core.Bool.{Bool, true, false}
 use mathlib.Core.List.{List, [], _∷_}
 use lib.ListN.{length}
-use borrow.Author.Tests.{lt-ltb, le-ltb}
+use lib.Dec.{ltb}
+use borrow.Author.Tests.{ltb-true, lt-ltb, le-ltb}
 use Rattle.runs.specs.Runs.{pick}
 use Rattle.tables.proofs.Compared.{by-order}
 use Rattle.ranking.specs.Rank.{aheadOf}
@@ -68,3 +69,24 @@ module _ (w : List ℕ) where
   -- more are over
   pub many-over : (rs : List Reading) → 64 < length rs → plusAll w (rows []) rs ≡ over
   many-over rs h = over-from [] rs (omega arith) (omega arith)
+
+-- how many rows are listed
+abbrev pub rowCount : Rows → ℕ
+rowCount (rows xs) = length xs
+rowCount over = 0
+
+module _ (w : List ℕ) where
+  plus-fits : (a : Rows) (r : Reading) → rowCount a ≤ 64 → rowCount (plus w a r) ≤ 64
+  unfolding plus
+  plus-fits over r h = h
+  plus-fits (rows xs) r h = by (ltb (length xs) 64) refl (ranked-length w r xs)
+    where
+      by : (b : Bool) → ltb (length xs) 64 ≡ b → length (ranked w r xs) ≡ suc (length xs) → rowCount (pick b (rows (ranked w r xs)) over) ≤ 64
+      by true e n = let k = ltb-true (length xs) 64 e in omega arith
+      by false e n = omega arith
+
+  -- never more than 64
+  pub all-fit : (a : Rows) (rs : List Reading) → rowCount a ≤ 64 → rowCount (plusAll w a rs) ≤ 64
+  unfolding plusAll
+  all-fit a [] h = h
+  all-fit a (r ∷ rs) h = all-fit (plus w a r) rs (plus-fits a r h)

@@ -1,10 +1,9 @@
 -- What the entries hand back, by what is said of word and sheet. The proofs of `entry` cite it. Assumes nothing.
 use mathlib.Core.Path.{_≡_, refl, sym, ap, _∙_}
-use mathlib.Core.List.{List, _++_}
+use mathlib.Core.List.{List}
 use Prim.Native.Nat.{ℕ, _+_, _-_, _≤_}
 use native.Mathlib.Omega.{arith}
-use lib.ListN.{length, take, drop, length-append}
-use Rattle.sheet.specs.Lines.{startsOf}
+use lib.ListN.{length, take, drop}
 use Rattle.sheet.specs.Inputs.{inputsOf, numbersGiven, lowestNumbers}
 use Rattle.sheet.specs.Replies.{reply}
 use Rattle.sheet.specs.declared.inputs.Refusal.{Refusal}
@@ -74,11 +73,6 @@ module _ (w s : List ℕ) where
       by : (i : Inputs) → supportGiven (answerIf i w s) ≡ supportedIf i w s
       by inputs.Accepted = ap supports.Given (form-found s w (progressiveOf (reply s) w))
       by (inputs.Refused r) = refl
-
--- the list of the starts has them all, with what stood behind them
-pub filled-length : (s out old : List ℕ) (r : ℕ) → r ≡ length (startsOf s) → out ≡ startsOf s ++ drop r old → r ≤ length out
-filled-length s out old r n e =
-    let l : length out ≡ length (startsOf s ++ drop r old) = ap length e in omega (arith, length-append (startsOf s) (drop r old))
 
 -- the number of a refusal is the lowest that applies
 pub supported-lowest : (w s : List ℕ) → supportedNumbers (supportedOf w s) ≡ lowestNumbers w s

@@ -1,17 +1,13 @@
 // The entries: a word and a sheet lent together, each tested before anything is asked.
 ghost use mathlib.Core.Path.{_≡_};
-ghost use Rattle.sheet.specs.Lines.{sheetCheck};
-ghost use Rattle.sheet.specs.declared.check.SheetCheck.the-variants.{Accepted};
-ghost use Rattle.progressive.specs.Found.{FormAt};
 ghost use Rattle.progressive.specs.Answers.{Analyzed, answerOf, formGiven, lemmaPart, lemmaText, supportedOf};
 use crate::find::Progressive;
 use crate::find::find_progressive;
 use crate::find::no_form;
+use lookup::lines::prepare;
 use lookup::starts::Start;
-use lookup::starts::fill_starts;
 use sheet::inputs::Inputs;
 use sheet::inputs::Refusal;
-use sheet::inputs::check_inputs;
 
 // What the analysis gives: why word or sheet is refused, or what was found.
 pub enum Answer {
@@ -25,25 +21,18 @@ pub enum Supported {
     Given(bool),
 }
 
-// The progressive form of the word, with a list of the sheet's lines made for this one search. It has room for the 6,553 lines
-// that an accepted sheet has at most, and one more.
-fn indexed(word: &[u8], sheet: &[u8]) -> Progressive
-    requires { ⌜ sheetCheck (now sheet) ≡ Accepted ⌝ }
-    ensures { λ r. ⌜ FormAt (now (sheet .entry)) (now (word .entry)) r ⌝ }
-{
-    let mut starts: [Start; 6554] = [0; 6554];
-    let n = fill_starts(sheet, &mut starts);
-    find_progressive(sheet, &starts[..n], word)
-}
-
-// The progressive form of the word, or why word or sheet is refused: the lowest number that applies.
+// The progressive form of the word, or why word or sheet is refused: the lowest number that applies. The list of line starts has room
+// for the 6,553 lines that an accepted sheet has at most, and one more.
 pub fn analyze_progressive(word: &[u8], sheet: &[u8]) -> Answer
     ensures { λ r. ⌜ Analyzed (now (word .entry)) (now (sheet .entry)) r ⌝ }
 {
-    let inputs = check_inputs(word, sheet);
+    let mut starts: [Start; 6554] = [0; 6554];
+    let ready = prepare(word, sheet, &mut starts);
+    let lines = ready.lines;
+    let inputs = ready.inputs;
     match inputs {
         Inputs::Refused(refusal) => Answer::Refused(refusal),
-        Inputs::Accepted => Answer::Given(indexed(word, sheet)),
+        Inputs::Accepted => Answer::Given(find_progressive(sheet, &starts[..lines], word)),
     }
 }
 

@@ -16,7 +16,10 @@ use Rattle.text.specs.Characters.{opens, chars}
 use Rattle.tables.specs.Rows.{prefixForms, suffixes}
 use Rattle.tables.proofs.Facts.{suffix-count, prefix-form-count}
 use Rattle.tables.proofs.Matches.{two-suffixes, two-prefix-forms}
-use Rattle.sheet.specs.Replies.{Ask, lettersBy}
+use Rattle.sheet.specs.Replies.{Ask, lettersBy, reply}
+use Rattle.sheet.specs.Inputs.{inputsOf}
+use Rattle.sheet.specs.declared.inputs.Inputs.{Inputs}
+use Rattle.sheet.specs.declared.inputs.Inputs.the-variants as inputs
 use Rattle.sheet.specs.declared.letters.Letters.{Letters}
 use Rattle.strips.specs.Suffix.{sheds, isLong, without, firstCharacter, plain, shared, remainders}
 use Rattle.strips.specs.Prefix.{leaves, leastAfter, after}
@@ -28,6 +31,7 @@ use Rattle.roots.specs.Rank.{aheadOf}
 use Rattle.roots.specs.Lists.{holdsIn, ranked, once, rootLimit}
 use Rattle.roots.specs.Room.{onceWithin, heldBy, heldOf, heldAll}
 use Rattle.roots.specs.Candidates.{isKnown, candidateBy, keptBy, keptOf, keptAll, partsAmong, underRow, underRows, bare, oneSuffix, underForm, underForms, offers, candidates}
+use Rattle.roots.specs.Answers.{rootsIf, rootsFor}
 use Rattle.roots.proofs.Offered.{held-append}
 use Rattle.roots.specs.declared.RootCandidate.{RootCandidate}
 
@@ -229,3 +233,12 @@ chars-most (b ∷ s) = by (within tail b) (chars-most s)
     by : (x : Bool) → chars s ≤ length s → pick x 0 1 + chars s ≤ suc (length s)
     by true h = omega arith
     by false h = omega arith
+
+-- so an entry gives at most 16
+pub roots-few : (word sheet : List ℕ) → length (rootsFor word sheet) ≤ rootLimit
+unfolding rootsFor
+roots-few word sheet = by (inputsOf word sheet)
+  where
+    by : (i : Inputs) → length (rootsIf i word sheet) ≤ rootLimit
+    by inputs.Accepted = candidates-few (reply sheet) word
+    by (inputs.Refused r) = omega arith

@@ -6,11 +6,10 @@ use crate::list::is_some;
 use crate::list::nothing;
 use crate::lookup_root_candidates_in;
 use decomposition::Parts;
+use lookup::lines::prepare;
 use lookup::starts::Start;
-use lookup::starts::fill_starts;
 use sheet::inputs::Inputs;
 use sheet::inputs::Refusal;
-use sheet::inputs::check_inputs;
 use tables::origins::Origin;
 ghost use mathlib.Core.Path.{_≡_};
 ghost use Rattle.roots.specs.Answers.{RootsGiven, blank, bestAnswer, knownAnswer};
@@ -38,20 +37,19 @@ pub enum KnownAnswer {
 pub fn lookup_root_candidates(word: &[u8], sheet: &[u8]) -> RootsAnswer
     ensures { λ r. ⌜ RootsGiven (now (word .entry)) (now (sheet .entry)) r ⌝ }
 {
-    let inputs = check_inputs(word, sheet);
+    let mut starts: [Start; 6554] = [0; 6554];
+    let ready = prepare(word, sheet, &mut starts);
+    let lines = ready.lines;
+    let inputs = ready.inputs;
     match inputs {
         Inputs::Refused(refusal) => RootsAnswer {
             inputs: Inputs::Refused(refusal),
             roots: nothing(),
         },
-        Inputs::Accepted => {
-            let mut starts: [Start; 6554] = [0; 6554];
-            let n = fill_starts(sheet, &mut starts);
-            RootsAnswer {
-                inputs: Inputs::Accepted,
-                roots: lookup_root_candidates_in(sheet, &starts[..n], word),
-            }
-        }
+        Inputs::Accepted => RootsAnswer {
+            inputs: Inputs::Accepted,
+            roots: lookup_root_candidates_in(sheet, &starts[..lines], word),
+        },
     }
 }
 

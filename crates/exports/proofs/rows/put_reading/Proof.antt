@@ -8,17 +8,17 @@ use borrow.Author.Needs.{needs}
 use Rattle.exports.proofs.rows.put_reading.Statement.{statement}
 use Rattle.exports.proofs.rows.put_reading.Tie as tie
 
-array-copy-out-a : tie.Need-array-copy-out-a
-array-copy-out-a c = search needs
+array-copy-out-first : tie.Need-array-copy-out-first
+array-copy-out-first c = search needs
 
-array-copy-out-b : tie.Need-array-copy-out-b
-array-copy-out-b c = search needs
+array-copy-out-second : tie.Need-array-copy-out-second
+array-copy-out-second c = search needs
 
-array-copy-out-c : tie.Need-array-copy-out-c
-array-copy-out-c c = search needs
+array-copy-out-third : tie.Need-array-copy-out-third
+array-copy-out-third c = search needs
 
-array-copy-out-d : tie.Need-array-copy-out-d
-array-copy-out-d c = search needs
+array-copy-out-fourth : tie.Need-array-copy-out-fourth
+array-copy-out-fourth c = search needs
 
 low-requires : tie.Need-low-requires
 low-requires c κs = search needs
@@ -85,10 +85,10 @@ pub put-reading-spec : {M : Type 1} → statement M
 put-reading-spec =
     tie.close
     (tie.spec
-    array-copy-out-a
-    array-copy-out-b
-    array-copy-out-c
-    array-copy-out-d
+    array-copy-out-first
+    array-copy-out-second
+    array-copy-out-third
+    array-copy-out-fourth
     low-requires
     high-requires
     low-requires-2

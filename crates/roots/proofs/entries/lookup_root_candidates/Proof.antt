@@ -1,37 +1,43 @@
 -- `entries::lookup_root_candidates` meets its contract: the starts stored of an accepted sheet stand for it. Assumes nothing.
-use mathlib.Core.Path.{_≡_, refl, sym, ap, _∙_}
-use Prim.Native.Nat.{_≤_}
-use native.Mathlib.Omega.{arith}
-use lib.ListN.{length}
+use Prim.Native.Nat.{ℕ, _≤_}
+use mathlib.Core.Path.{_≡_, sym, ap, _∙_}
+use mathlib.Core.List.{List}
+use lib.ListN.{length, take}
 use lib.Seq.{length-take-le}
-use Rattle.sheet.specs.Lines.{startsOf, sheetCheck}
-use Rattle.sheet.specs.declared.check.SheetCheck.the-variants.{Accepted}
-use Rattle.lookup.proofs.Count.{room, filled}
-use Rattle.sheet.proofs.Refusals.{accepted-each}
+use Rattle.text.specs.Word.{wordCheck}
+use Rattle.text.specs.declared.word.WordCheck.the-variants as words
+use Rattle.sheet.specs.Inputs.{inputsOf}
+use Rattle.sheet.specs.Replies.{Indexed}
 use Rattle.sheet.specs.declared.inputs.Inputs.{Inputs}
-use Rattle.decomposition.proofs.Short.{accepted-short}
+use Rattle.lookup.proofs.Readied.{ready}
+use Rattle.decomposition.proofs.Short.{word-short}
 use Rattle.roots.specs.Answers.{rootsIf, rootsFor}
+use native.Mathlib.Omega.{arith}
 use borrow.Author.Needs.{needs}
 use Rattle.roots.proofs.entries.lookup_root_candidates.Statement.{statement}
 use Rattle.roots.proofs.entries.lookup_root_candidates.Tie as tie
 
-accepted : (c : tie.After-enum-told) → sheetCheck (c .before .before .before .before .before .args .sheet .now) ≡ Accepted
-accepted c =
-    let d = c .before .before in
-    let a = d .before .before .before .args in
-    accepted-each (a .word .now) (a .sheet .now) (sym (d .check-inputs .ensures) ∙ c .enum-told .given .1) .1
+slice-aggregate-prepare : tie.Need-slice-aggregate-prepare
+slice-aggregate-prepare c = search needs
 
--- the starts stored are a front part of the list
-fits : (c : tie.After-fill-starts) → c .fill-starts .result ≤ length (c .fill-starts .last .1 .0)
-fits c =
-    let t = c .before .before in
-    let a = t .before .before .before .before .before .args in
-    let n : c .fill-starts .result ≡ length (startsOf (a .sheet .now)) = c .fill-starts .ensures .0 in
-    let r : length (startsOf (a .sheet .now)) ≤ 6554 = room (a .sheet .now) 6554 (accepted t) (omega arith) .1 in
-    omega arith
+prepare-requires : tie.Need-prepare-requires
+prepare-requires c κs = search needs
 
-check-inputs-requires : tie.Need-check-inputs-requires
-check-inputs-requires c κs = search needs
+-- word and sheet, and what the check says of them
+module _ (c : tie.After-prepare) where
+  abbrev w : List ℕ
+  w = c .before .before .before .before .args .word .now
+
+  abbrev s : List ℕ
+  s = c .before .before .before .before .args .sheet .now
+
+  said-is : (x : Inputs) → c .prepare .result .inputs ≡ x → x ≡ inputsOf w s
+  said-is x e = sym e ∙ c .prepare .ensures .said
+
+-- both are accepted, and the starts stored stand for the sheet
+prepared : (c : tie.After-enum-told) → let k = c .before .before .before in
+    (wordCheck (w k) ≡ words.Accepted) × (k .prepare .result .lines ≤ length (k .prepare .last .1 .1 .0)) × Indexed (s k) (take (k .prepare .result .lines) (k .prepare .last .1 .1 .0))
+prepared c = let k = c .before .before .before in ready (w k) (s k) _ _ (k .prepare .result) (k .prepare .ensures) (c .enum-told .given .1)
 
 enum-known-inputs : tie.Need-enum-known-inputs
 enum-known-inputs c = search needs
@@ -42,49 +48,36 @@ nothing-requires c κs = search needs
 enum-told : tie.Need-enum-told
 enum-told c = search needs
 
-slice-aggregate-fill-starts : tie.Need-slice-aggregate-fill-starts
-slice-aggregate-fill-starts c = search needs
-
-fill-starts-requires : tie.Need-fill-starts-requires
-fill-starts-requires c κs = room _ 6554 (accepted (c .before)) (omega arith)
-
 array-share-prefix-starts : tie.Need-array-share-prefix-starts
-array-share-prefix-starts c = fits (c .before)
+array-share-prefix-starts c = prepared c .1
 
 slice-aggregate-lookup-root-candidates-in : tie.Need-slice-aggregate-lookup-root-candidates-in
-slice-aggregate-lookup-root-candidates-in c = sym (length-take-le _ _ (fits (c .before .before)))
+slice-aggregate-lookup-root-candidates-in c = sym (length-take-le _ _ (prepared (c .before) .1))
 
 lookup-root-candidates-in-requires : tie.Need-lookup-root-candidates-in-requires
-lookup-root-candidates-in-requires c κs =
-    let f = c .before .before in
-    let t = f .before .before in
-    let d = t .before .before in
-    let a = d .before .before .before .args in
-    (filled _ _ _ _ (accepted t) (f .fill-starts .ensures .0) (f .fill-starts .ensures .1), accepted-short (a .word .now) (a .sheet .now) (sym (d .check-inputs .ensures) ∙ t .enum-told .given .1))
+lookup-root-candidates-in-requires c κs = let r = prepared (c .before) in (r .2, word-short _ (r .0))
 
 returns : tie.Need-returns
 unfolding rootsFor
 returns c =
     let i = c .before .before in
-    let d = i .before .before in
-    let a = d .before .before .before .args in
-    let e = sym (i .inputs .given .1) ∙ d .check-inputs .ensures in
+    let k = i .before .before .before in
+    let e = said-is k _ (i .inputs .given .1) in
     record {
       said = e;
-      listed = c .nothing .ensures .0 ∙ ap (λ (i : Inputs). rootsIf i (a .word .now) (a .sheet .now)) e;
+      listed = c .nothing .ensures .0 ∙ ap (λ (i : Inputs). rootsIf i (w k) (s k)) e;
       few = omega (arith, c .nothing .ensures .1);
     }
 
 returns-2 : tie.Need-returns-2
 unfolding rootsFor
 returns-2 c =
-    let t = c .before .before .before .before .before in
-    let d = t .before .before in
-    let a = d .before .before .before .args in
-    let e = sym (t .enum-told .given .1) ∙ d .check-inputs .ensures in
+    let t = c .before .before in
+    let k = t .before .before .before in
+    let e = said-is k _ (t .enum-told .given .1) in
     record {
       said = e;
-      listed = c .lookup-root-candidates-in .ensures .0 ∙ ap (λ (i : Inputs). rootsIf i (a .word .now) (a .sheet .now)) e;
+      listed = c .lookup-root-candidates-in .ensures .0 ∙ ap (λ (i : Inputs). rootsIf i (w k) (s k)) e;
       few = c .lookup-root-candidates-in .ensures .1;
     }
 
@@ -92,12 +85,11 @@ pub lookup-root-candidates-spec : {M : Type 1} → statement M
 lookup-root-candidates-spec =
     tie.close
     (tie.spec
-    check-inputs-requires
+    slice-aggregate-prepare
+    prepare-requires
     enum-known-inputs
     nothing-requires
     enum-told
-    slice-aggregate-fill-starts
-    fill-starts-requires
     array-share-prefix-starts
     slice-aggregate-lookup-root-candidates-in
     lookup-root-candidates-in-requires
