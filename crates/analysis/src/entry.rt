@@ -19,6 +19,7 @@ ghost use Rattle.runs.specs.Runs.{pick};
 ghost use Rattle.text.specs.Word.{wordCheck};
 ghost use Rattle.text.specs.declared.word.WordCheck.the-variants.{Accepted};
 ghost use Rattle.sheet.specs.Replies.{Indexed};
+ghost use Rattle.lookup.specs.Starts.{Room};
 ghost use Rattle.ranking.specs.Lists.{foundOf, rowsOf};
 ghost use Rattle.analysis.specs.Answers.{collected, byRows, listedRows, saidOf, rowsGiven, bestRows, hasOf};
 
@@ -121,20 +122,33 @@ fn listed(word: &[u8], sheet: &[u8], starts: &[Start]) -> Analysis
     }
 }
 
-// The core call: every reading of the word that the sheet supports, each once, in rank order; or why there is none: the lowest
-// number that applies. Free: the rows past the count.
-pub fn analyze_affixes(word: &[u8], sheet: &[u8]) -> Analysis
+// What is given for a word and a sheet, with a list that has room for the starts of the sheet's lines.
+fn answered(word: &[u8], sheet: &[u8], starts: &mut [Start]) -> Analysis
+    requires { ⌜ Room (now sheet) (now starts) ⌝ }
     ensures { λ r. ⌜ (r .said ≡ saidOf (now (word .entry)) (now (sheet .entry))) × (rowsOf (r .list) ≡ rowsGiven (now (word .entry)) (now (sheet .entry)))
         × (r .list .count ≡ length (rowsGiven (now (word .entry)) (now (sheet .entry)))) ⌝ }
 {
-    let mut starts: [Start; 6554] = [0; 6554];
-    let ready = prepare(word, sheet, &mut starts);
+    let ready = prepare(word, sheet, starts);
     let lines = ready.lines;
     let inputs = ready.inputs;
     match inputs {
         Inputs::Refused(refusal) => refused(Said::Refused(refusal)),
         Inputs::Accepted => listed(word, sheet, &starts[..lines]),
     }
+}
+
+// The core call: every reading of the word that the sheet supports, each once, in rank order; or why there is none: the lowest
+// number that applies. Free: the rows past the count. A list for the lines of any sheet is 13 KB to clear, which a small sheet is spared.
+pub fn analyze_affixes(word: &[u8], sheet: &[u8]) -> Analysis
+    ensures { λ r. ⌜ (r .said ≡ saidOf (now (word .entry)) (now (sheet .entry))) × (rowsOf (r .list) ≡ rowsGiven (now (word .entry)) (now (sheet .entry)))
+        × (r .list .count ≡ length (rowsGiven (now (word .entry)) (now (sheet .entry)))) ⌝ }
+{
+    if sheet.len() <= 4096 {
+        let mut few: [Start; 410] = [0; 410];
+        return answered(word, sheet, &mut few);
+    }
+    let mut starts: [Start; 6554] = [0; 6554];
+    answered(word, sheet, &mut starts)
 }
 
 // The first reading of a list. Free: the reading of an empty list.

@@ -15,7 +15,7 @@ use Rattle.sheet.specs.Forms.{key}
 use Rattle.sheet.specs.Lines.{lineAt, startsFrom, startsOf, sheetCheck, sheetLimit}
 use Rattle.sheet.specs.Replies.{Indexed}
 use Rattle.sheet.specs.declared.check.SheetCheck.the-variants.{Accepted}
-use Rattle.lookup.specs.Starts.{upto, shortestLine, lineLimit}
+use Rattle.lookup.specs.Starts.{upto, shortestLine, lineLimit, Room}
 use Rattle.lookup.proofs.Forms.{form-length, line-end, line-long}
 use Rattle.lookup.proofs.Accepted.{GoesUp, accepted-short, accepted-up}
 
@@ -74,6 +74,16 @@ few-lines s h =
     let f = few-from (length s) s 0 [] (omega arith) (accepted-up s h) in
     let l = accepted-short s h in
     omega arith
+
+-- a list with room for all lines of an accepted sheet has room for those of every sheet
+pub roomy : (s out : List ℕ) → lineLimit ≤ length out → Room s out
+unfolding Room
+roomy s out l = λ h. omega (arith, l, h)
+
+-- a sheet of at most 4,096 bytes has at most 409 lines
+pub few-room : (s out : List ℕ) → length s ≤ 4096 → 409 ≤ length out → Room s out
+unfolding Room
+few-room s out l n = λ h. omega (arith, l, n)
 
 -- what `fill_starts` asks, of an accepted sheet and a list of n places
 pub room : (s : List ℕ) (n : ℕ) → sheetCheck s ≡ Accepted → lineLimit ≤ n → (length s ≤ sheetLimit) × (length (startsOf s) ≤ n)

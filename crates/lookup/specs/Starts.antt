@@ -1,7 +1,7 @@
 -- Runs of a sheet's bytes up to a byte that ends them, and the bounds of a list of line starts. Assumes nothing.
-use Prim.Native.Nat.{ℕ, zero, suc, _/_}
+use Prim.Native.Nat.{ℕ, zero, suc, _/_, _≤_}
 use mathlib.Core.List.{List, [], _∷_}
-use lib.ListN.{take}
+use lib.ListN.{length, take}
 use lib.Dec.{eqb}
 use Rattle.runs.specs.Runs.{pick}
 use Rattle.sheet.specs.Lines.{sheetLimit}
@@ -22,3 +22,7 @@ shortestLine = 10
 -- the most lines of an accepted sheet
 abbrev pub lineLimit : ℕ
 lineLimit = sheetLimit / shortestLine
+
+-- a list has room for the starts of a sheet's lines, as far as the sheet is no longer than an accepted one
+unfoldable pub Room : List ℕ → List ℕ → Type 0
+Room s out = length s ≤ sheetLimit → length s / shortestLine ≤ length out

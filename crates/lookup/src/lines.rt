@@ -1,9 +1,7 @@
 // The check of a word and a sheet for all that is asked of them: the sheet is read once, and the first byte of each line is stored on
 // the way.
 ghost use mathlib.Core.Path.{_≡_};
-ghost use Prim.Native.Nat.{_≤_};
-ghost use lib.ListN.{length};
-ghost use Rattle.lookup.specs.Starts.{lineLimit};
+ghost use Rattle.lookup.specs.Starts.{Room};
 ghost use Rattle.lookup.specs.Stored.{Stored, SheetReady, Prepared};
 use crate::starts::Start;
 use sheet::check::SheetCheck;
@@ -28,9 +26,9 @@ pub struct Ready {
 }
 
 // The check of a sheet, as `sheet::check::check_sheet` makes it. The first bytes of its lines are stored at the front of `out`, which has
-// room for 6,553: of all lines, or of those before the faulty one.
+// room for a line of every 10 bytes: of all lines, or of those before the faulty one.
 pub fn check_lines(s: &[u8], out: &mut [Start]) -> Checked
-    requires { ⌜ lineLimit ≤ length (now out) ⌝ }
+    requires { ⌜ Room (now s) (now out) ⌝ }
     ensures { λ r. ⌜ Stored (now (s .entry)) (now (out .entry)) (now (out .exit)) r ⌝ }
 {
     if 65536 < s.len() {
@@ -83,7 +81,7 @@ pub fn check_lines(s: &[u8], out: &mut [Start]) -> Checked
 
 // What is said of a sheet with a word that is accepted.
 fn sheet_ready(sheet: &[u8], out: &mut [Start]) -> Ready
-    requires { ⌜ lineLimit ≤ length (now out) ⌝ }
+    requires { ⌜ Room (now sheet) (now out) ⌝ }
     ensures { λ r. ⌜ SheetReady (now (sheet .entry)) (now (out .entry)) (now (out .exit)) r ⌝ }
 {
     let checked = check_lines(sheet, out);
@@ -112,7 +110,7 @@ fn sheet_ready(sheet: &[u8], out: &mut [Start]) -> Ready
 // Whether word and sheet are accepted, as `sheet::inputs::check_inputs` says it. The first bytes of the sheet's lines are stored at the
 // front of `out`, as `check_lines` does it; of a refused word nothing is stored.
 pub fn prepare(word: &[u8], sheet: &[u8], out: &mut [Start]) -> Ready
-    requires { ⌜ lineLimit ≤ length (now out) ⌝ }
+    requires { ⌜ Room (now sheet) (now out) ⌝ }
     ensures { λ r. ⌜ Prepared (now (word .entry)) (now (sheet .entry)) (now (out .entry)) (now (out .exit)) r ⌝ }
 {
     let said = check_word(word);

@@ -10,6 +10,7 @@ use Rattle.sheet.specs.Inputs.{inputsOf}
 use Rattle.sheet.specs.Replies.{Indexed}
 use Rattle.sheet.specs.declared.inputs.Inputs.{Inputs}
 use Rattle.lookup.proofs.Readied.{ready}
+use Rattle.lookup.proofs.Count.{roomy}
 use Rattle.decomposition.specs.Answers.{morphemeIf, morphemeAnswer}
 use Rattle.decomposition.specs.declared.Morpheme.{Morpheme}
 use Rattle.decomposition.specs.declared.entries.MorphemeAnswer.{MorphemeAnswer}
@@ -25,7 +26,7 @@ slice-aggregate-prepare : tie.Need-slice-aggregate-prepare
 slice-aggregate-prepare c = search needs
 
 prepare-requires : tie.Need-prepare-requires
-prepare-requires c κs = search needs
+prepare-requires c κs = roomy _ _ (search needs)
 
 -- word and sheet, and what the check says of them
 module _ (c : tie.After-prepare) where

@@ -14,7 +14,7 @@ use Rattle.sheet.specs.Forms.{isForm, key}
 use Rattle.sheet.specs.Lines.{startsFrom, startsOf, lineAt, isLess, judged, sheetCheck}
 use Rattle.sheet.specs.Steps.{nameEnd, valueEnd, stepAt}
 use Rattle.sheet.proofs.Lines.{Spaced, keyFrom, cmp-spaced, judged-no-form, judged-not-above, judged-on, form-told, end-told, no-form-told, line-fits, next-line, no-form-starts, letter-to-name, end-starts}
-use Rattle.lookup.specs.Starts.{shortestLine}
+use Rattle.lookup.specs.Starts.{shortestLine, Room}
 use Rattle.lookup.proofs.Forms.{line-end, line-long}
 use Rattle.lookup.proofs.Count.{next-start, no-lines, stored-front, stored-behind, stored-far, line-next}
 use Rattle.lookup.proofs.lines.check_lines.Statement.{statement}
@@ -61,7 +61,8 @@ list-of d = d .before .before .before .before .args .out .now
 
 -- so far there are no more lines than there is room for
 few : (d : tie.At-loop Inv-loop μ-loop) → d .loop .n ≤ length (d .loop .out)
-few d = let b = d .before .before .before .before in omega (arith, d .loop .inv .0, d .loop .inv .5, d .loop .inv .6, d .before .if1 .left, b .pre)
+unfolding Room
+few d = let b = d .before .before .before .before in omega (arith, d .loop .inv .0, d .loop .inv .5, d .loop .inv .6, b .pre (d .before .if1 .left))
 
 -- the answer to the sheet is that to the lines to come
 judged-rest : (d : tie.At-loop Inv-loop μ-loop) → sheetCheck (sheet-of d) ≡ judged (sheet-of d) (keyFrom (part (sheet-of d) (d .loop .«from») (d .loop .end))) (startsFrom true (d .loop .cursor .at) (drop (d .loop .cursor .at) (sheet-of d)))
@@ -172,10 +173,11 @@ longer c =
     omega (arith, line-long t (told c .1), line-end t (told c .1))
 
 more : (c : tie.After-line Inv-loop μ-loop) → let d = c .before .before .before in d .loop .n < length (d .loop .out)
+unfolding Room
 more c =
     let d = c .before .before .before in
     let b = d .before .before .before .before in
-    omega (arith, longer c, inside c, d .loop .inv .5, d .loop .inv .6, d .before .if1 .left, b .pre)
+    omega (arith, longer c, inside c, d .loop .inv .5, d .loop .inv .6, b .pre (d .before .if1 .left))
 
 cast-out : tie.Need-cast-out Inv-loop μ-loop
 cast-out c = let l = c .before .before .before in let d = l .before .before .before in omega (arith, told l .0, d .before .if1 .left)

@@ -8,6 +8,7 @@ use Rattle.text.specs.Word.{wordCheck}
 use Rattle.text.specs.declared.word.WordCheck.the-variants as words
 use Rattle.sheet.specs.Replies.{Indexed}
 use Rattle.lookup.proofs.Readied.{ready}
+use Rattle.lookup.proofs.Count.{roomy}
 use Rattle.progressive.proofs.Entries.{refused, given}
 use borrow.Author.Needs.{needs}
 use Rattle.progressive.proofs.entry.analyze_progressive.Statement.{statement}
@@ -17,7 +18,7 @@ slice-aggregate-prepare : tie.Need-slice-aggregate-prepare
 slice-aggregate-prepare c = search needs
 
 prepare-requires : tie.Need-prepare-requires
-prepare-requires c κs = search needs
+prepare-requires c κs = roomy _ _ (search needs)
 
 -- word and sheet
 module _ (c : tie.After-prepare) where
