@@ -10,7 +10,7 @@ use Rattle.progressive.specs.Progressive.{isProgressive}
 use Rattle.paths.specs.Support.{hasSibling, points}
 use Rattle.analysis.specs.declared.support.Support.{Support}
 
--- of the lines whose names begin with a root there is one, and the root has letters: that line is the root's own
+-- of the lines whose names begin with a root there is at most one, and the root has letters: that line is the root's own
 abbrev pub isAlone : Range → Letters → Bool
 isAlone range letters = leb (range .hi - range .lo) 1 && (letters .word || letters .head)
 

@@ -83,8 +83,8 @@ pub fn decomposed(
     }
 }
 
-// The decomposition of a word by an accepted sheet; the two tables are named here and lent down. `starts` is what `fill_starts` stores
-// of the sheet, and the word has at most 192 bytes.
+// The decomposition of a word by an accepted sheet; the two tables are named here and lent down. `starts` are the first bytes of the
+// sheet's lines, and the word has at most 192 bytes.
 pub fn decompose_in(sheet: &[u8], starts: &[Start], word: &[u8]) -> Morpheme
     requires { ⌜ Indexed (now sheet) (now starts) × (length (now word) ≤ 192) ⌝ }
     ensures { λ r. ⌜ r ≡ morphemeOf (reply (now (sheet .entry))) (now (word .entry)) ⌝ }

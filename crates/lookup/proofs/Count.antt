@@ -1,5 +1,5 @@
 -- How many lines an accepted sheet has at most, and how a walk from line to line finds their first bytes.
--- The proofs of `fill_starts` and `seek` cite it, and every caller that lends a list for the starts. Assumes nothing.
+-- The proofs of `check_lines` and `seek` cite it, and every caller that lends a list for the starts. Assumes nothing.
 use mathlib.Core.Path.{_≡_, refl, sym, ap, _∙_}
 use mathlib.Core.Bool.{Bool, true, false}
 use mathlib.Core.List.{List, [], _∷_, _++_, append-assoc}
@@ -85,10 +85,6 @@ pub few-room : (s out : List ℕ) → length s ≤ 4096 → 409 ≤ length out �
 unfolding Room
 few-room s out l n = λ h. omega (arith, l, n)
 
--- what `fill_starts` asks, of an accepted sheet and a list of n places
-pub room : (s : List ℕ) (n : ℕ) → sheetCheck s ≡ Accepted → lineLimit ≤ n → (length s ≤ sheetLimit) × (length (startsOf s) ≤ n)
-room s n h l = let f = few-lines s h in (accepted-short s h, omega arith)
-
 -- a line begins inside the sheet, so that every start of an accepted one fits 16 bits
 starts-from : (c : Bool) (n : ℕ) (t : List ℕ) (i : ℕ) → i < length (startsFrom c n t) → getD (startsFrom c n t) i 0 < n + length t
 starts-from c n [] i h = absurd (omega arith)
@@ -124,7 +120,7 @@ module _ (starts out old : List ℕ) (n : ℕ) (h : n ≤ length out) where
       let z : n + 0 ≡ n = omega arith in
       (omega arith, ap (λ (k : ℕ). getD starts k 0) (sym z) ∙ sym (getD-drop n starts 0 0) ∙ ap (λ (x : List ℕ). getD x 0 0) d)
 
--- what the caller of `fill_starts` has: the stored starts stand for the accepted sheet in a search
+-- what the caller has: the stored starts stand for the accepted sheet in a search
 pub filled : (s out old : List ℕ) (r : ℕ) → sheetCheck s ≡ Accepted → r ≡ length (startsOf s) → out ≡ startsOf s ++ drop r old →
     Indexed s (take r out)
 filled s out old r h n e =

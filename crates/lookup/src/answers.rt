@@ -1,5 +1,5 @@
 // What an accepted sheet replies to the questions that are asked of it: the letters of a name, the infinitive of a link, the
-// kind of a suffix, and the place of a name. `starts` is what `fill_starts` stores of the sheet.
+// kind of a suffix, and the place of a name. `starts` are the first bytes of the sheet's lines.
 ghost use mathlib.Core.Path.{_≡_};
 ghost use mathlib.Core.List.{_++_};
 ghost use Prim.Native.Nat.{_+_, _≤_};

@@ -101,7 +101,7 @@ fn end_of(sheet: &[u8], starts: &[Start], letter: u8, head: &[u8], from: usize, 
 }
 
 // The lines of the letter whose names begin with `head`.
-// The sheet is accepted, and `starts` is what `fill_starts` stores of it.
+// The sheet is accepted, and `starts` are the first bytes of its lines.
 pub fn range_of(sheet: &[u8], starts: &[Start], letter: u8, head: &[u8]) -> Range
     requires { ⌜ Indexed (now sheet) (now starts) ⌝ }
     ensures { λ r. ⌜ Begun (now (sheet .entry)) (now (starts .entry)) letter (now (head .entry)) r ⌝ }

@@ -107,8 +107,8 @@ fn sheet_ready(sheet: &[u8], out: &mut [Start]) -> Ready
     }
 }
 
-// Whether word and sheet are accepted, as `sheet::inputs::check_inputs` says it. The first bytes of the sheet's lines are stored at the
-// front of `out`, as `check_lines` does it; of a refused word nothing is stored.
+// Whether word and sheet are accepted; of several reasons to refuse them, the one with the lowest number. The first bytes of the sheet's
+// lines are stored at the front of `out`, as `check_lines` does it; of a refused word nothing is stored.
 pub fn prepare(word: &[u8], sheet: &[u8], out: &mut [Start]) -> Ready
     requires { ⌜ Room (now sheet) (now out) ⌝ }
     ensures { λ r. ⌜ Prepared (now (word .entry)) (now (sheet .entry)) (now (out .entry)) (now (out .exit)) r ⌝ }

@@ -110,7 +110,7 @@ fn line_order(sheet: &[u8], at: usize, letter: u8, p: &[u8], q: &[u8]) -> Order
 }
 
 // The line of the question (letter, the name that `p` and then `q` make), found in at most 13 comparisons of one line each.
-// The sheet is accepted, and `starts` is what `fill_starts` stores of it.
+// The sheet is accepted, and `starts` are the first bytes of its lines.
 pub(crate) fn seek(sheet: &[u8], starts: &[Start], letter: u8, p: &[u8], q: &[u8]) -> Found
     requires { ⌜ Indexed (now sheet) (now starts) ⌝ }
     ensures { λ r. ⌜ Sought (now (sheet .entry)) letter (now (p .entry) ++ now (q .entry)) r ⌝ }

@@ -1,4 +1,4 @@
-// The search for a progressive form and its lemma in an accepted sheet. `starts` is what `lookup::starts::fill_starts` stores of it.
+// The search for a progressive form and its lemma in an accepted sheet. `starts` are the first bytes of its lines.
 // A question is asked in two parts, a part of the word and a fixed ending, so that nothing is joined.
 ghost use mathlib.Core.Path.{_≡_};
 ghost use mathlib.Core.Bool.{_||_};
