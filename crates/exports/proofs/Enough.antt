@@ -1,6 +1,6 @@
 -- Buffers that are always long enough: 1,152 bytes for the readings of a word, 528 for its root candidates, 35,466 for the list of its
 -- readings as a text. Assumes nothing.
-use Prim.Native.Nat.{ℕ, _+_, _*_, _≤_}
+use Prim.Native.Nat.{ℕ, _*_, _≤_}
 use native.Mathlib.Omega.{arith}
 use native.Mathlib.Nat.{suc-mul}
 use mathlib.Core.Path.{_≡_, refl, sym, ap, subst, _∙_}
@@ -10,11 +10,6 @@ use lib.ListN.{length, drop, replicate, length-append, length-replicate, length-
 use lib.Seq.{length-take-le}
 use lib.Dec.{leb}
 use borrow.Author.Tests.{le-leb}
-use Rattle.runs.specs.Runs.{pick}
-use Rattle.text.specs.Word.{wordCheck, wordLimit}
-use Rattle.text.specs.declared.word.WordCheck.the-variants as words
-use Rattle.sheet.specs.Lines.{sheetCheck}
-use Rattle.sheet.specs.declared.check.SheetCheck.the-variants as sheets
 use Rattle.sheet.specs.Inputs.{inputsOf}
 use Rattle.sheet.specs.Replies.{Ask, reply}
 use Rattle.sheet.specs.declared.inputs.Refusal.{Refusal}
@@ -37,9 +32,7 @@ use Rattle.analysis.specs.Answers.{collected, saidBy, saidOf, rowsGiven, saidNu
 use Rattle.analysis.proofs.Promises.{rows-few, seven-exactly, all-listed}
 use Rattle.listing.specs.Texts.{rowText, rowTexts, listingText, rowRoom, listingRoom}
 use Rattle.listing.specs.Placed.{writtenOf}
-use Rattle.listing.specs.Printed.{outcomeBy, outcomeOf}
-use Rattle.listing.specs.declared.Written.{Written}
-use Rattle.listing.specs.declared.Written.the-variants.{Bytes, TooShort}
+use Rattle.listing.specs.Printed.{outcomeBy, outcomeOf, leftBy, leftOf}
 use Rattle.listing.proofs.Room.{reading-size, listing-size}
 use Rattle.exports.specs.Codes.{refusalCode, outcomeCode}
 use Rattle.exports.specs.Rows.{Filled, each, rowsFilled, readingBytes, readingsIf, readingsFilled}
@@ -82,11 +75,11 @@ filled-long n d xs =
     length-take-le n (xs ++ replicate n d) (omega arith)
 
 -- a listed reading has two places for prefixes and four for segments
-two-prefixes : (ask : Ask) (w : List ℕ) (p : Route) → length (readingOf ask w p .prefixes) ≡ 2
+pub two-prefixes : (ask : Ask) (w : List ℕ) (p : Route) → length (readingOf ask w p .prefixes) ≡ 2
 unfolding readingOf
 two-prefixes ask w p = filled-long 2 0 (p .prefixRows)
 
-four-segments : (ask : Ask) (w : List ℕ) (p : Route) → length (readingOf ask w p .segments) ≡ 4
+pub four-segments : (ask : Ask) (w : List ℕ) (p : Route) → length (readingOf ask w p .segments) ≡ 4
 unfolding readingOf
 four-segments ask w p = filled-long 4 noSegment (reverse (map (segmentOf ask) (p .strips)))
 
@@ -102,19 +95,39 @@ rows-size ask w (p ∷ ps) h k =
     let m = suc-mul (length ps) rowRoom in
     omega arith
 
--- the text of a list that is given has at most 35,466 bytes
-pub listing-bounded : (w s : List ℕ) → saidOf w s ≡ said.Listed → length (listingText w (rowsGiven w s)) ≤ listingRoom
-listing-bounded w s e =
+-- of a list that is given, the paths whose readings its rows are, and how long the word is
+pub given-paths : (w s : List ℕ) → saidOf w s ≡ said.Listed → (length w ≤ 192) × Listed (reply s) w (rowsGiven w s)
+given-paths w s e =
     let a = accepted-each w s (listed-accepted w s e) in
     let few : AtLeast 65 (IsReading (reply s) w) → ⊥ =
     (λ m. let z : _≡_ {A = ℕ} 0 1 = ap (length {A = ℕ}) (ap saidNumbers (sym e) ∙ seven-exactly w s (a .0) (a .1) .1 m) in absurd (omega arith)) in
-    let l : Listed (reply s) w (rowsGiven w s) = all-listed w s (a .0) (a .1) few .1 in
-    let h : length w ≤ 192 = word-short w (a .0) in
-    let n : length (rowsGiven w s) ≡ length (l .paths) = ap (length {A = Reading}) (sym (l .rows-are)) ∙ length-map (l .paths) (readingOf (reply s) w) in
-    let t : length (rowTexts w (map (readingOf (reply s) w) (l .paths))) ≤ length (l .paths) * rowRoom = rows-size (reply s) w (l .paths) h (l .scores h) in
-    let u : length (rowTexts w (rowsGiven w s)) ≤ length (l .paths) * rowRoom = subst (λ (rs : List Reading). length (rowTexts w rs) ≤ length (l .paths) * rowRoom) (l .rows-are) t in
-    let f = rows-few w s in
-    listing-size w (rowsGiven w s) (length (l .paths)) (omega arith) (sym n) u
+    (word-short w (a .0), all-listed w s (a .0) (a .1) few .1)
+
+-- the text of a list that is given has at most 35,466 bytes
+pub listing-bounded : (w s : List ℕ) → saidOf w s ≡ said.Listed → length (listingText w (rowsGiven w s)) ≤ listingRoom
+listing-bounded w s e =
+    let g = given-paths w s e in
+    by (rowsGiven w s) (g .0) (g .1) (rows-few w s)
+  where
+    by : (rs : List Reading) → length w ≤ 192 → Listed (reply s) w rs → length rs ≤ 64 → length (listingText w rs) ≤ listingRoom
+    by rs h l f =
+        let n : length rs ≡ length (l .paths) = ap (length {A = Reading}) (sym (l .rows-are)) ∙ length-map (l .paths) (readingOf (reply s) w) in
+        let t : length (rowTexts w (map (readingOf (reply s) w) (l .paths))) ≤ length (l .paths) * rowRoom = rows-size (reply s) w (l .paths) h (l .scores h) in
+        let u : length (rowTexts w rs) ≤ length (l .paths) * rowRoom = subst (λ (xs : List Reading). length (rowTexts w xs) ≤ length (l .paths) * rowRoom) (l .rows-are) t in
+        listing-size w rs (length (l .paths)) (omega arith) (sym n) u
+
+-- so in a buffer of so many bytes the text stands whole
+pub listing-whole : (w s out : List ℕ) → listingRoom ≤ length out → saidOf w s ≡ said.Listed →
+    (16 * length (listingText w (rowsGiven w s)) ≡ outcomeCode (outcomeOf w s out))
+    × (listingText w (rowsGiven w s) ++ drop (length (listingText w (rowsGiven w s))) out ≡ leftOf w s out)
+unfolding outcomeOf leftOf
+listing-whole w s out h e =
+    let text = listingText w (rowsGiven w s) in
+    let m = listing-bounded w s e in
+    let t : leb (length text) (length out) ≡ true = le-leb (length text) (length out) (omega arith) in
+    let c : outcomeCode (outcomeBy said.Listed (writtenOf text out)) ≡ 16 * length text = rw t in
+    let f : leftBy said.Listed text out ≡ text ++ drop (length text) out = rw t in
+    (sym c ∙ ap (λ (x : Said). outcomeCode (outcomeBy x (writtenOf text out))) (sym e), sym f ∙ ap (λ (x : Said). leftBy x text out) (sym e))
 
 -- no refusal's code is 8
 refusal-not-eight : (r : Refusal) → refusalCode r ≡ 8 → ⊥
@@ -125,18 +138,13 @@ refusal-not-eight SheetTooLong e = absurd (omega arith)
 refusal-not-eight (SheetNoForm at) e = absurd (omega arith)
 refusal-not-eight (SheetNotAbove at) e = absurd (omega arith)
 
--- so the code of `yunthirel_listing` is never 8 for a buffer of so many bytes
+-- and the code of `yunthirel_listing` is never 8
 pub listing-enough : (w s out : List ℕ) → listingRoom ≤ length out → outcomeCode (outcomeOf w s out) ≡ 8 → ⊥
 unfolding outcomeOf
-listing-enough w s out h e = by (saidOf w s) (λ g. listing-bounded w s g) e
+listing-enough w s out h e = by (saidOf w s) (λ g. listing-whole w s out h g .0 ∙ e) e
   where
-    by : (x : Said) → (x ≡ said.Listed → length (listingText w (rowsGiven w s)) ≤ listingRoom)
+    by : (x : Said) → (x ≡ said.Listed → 16 * length (listingText w (rowsGiven w s)) ≡ 8)
         → outcomeCode (outcomeBy x (writtenOf (listingText w (rowsGiven w s)) out)) ≡ 8 → ⊥
-    by said.Listed k e =
-        let m = k refl in
-        let n = length (listingText w (rowsGiven w s)) in
-        let t : pick (leb n (length out)) (Bytes n) TooShort ≡ Bytes n = rw (le-leb n (length out) (omega arith)) in
-        let z : 16 * n ≡ 8 = sym (ap (λ (x : Written). outcomeCode (outcomeBy said.Listed x)) t) ∙ e in
-        absurd (omega arith)
+    by said.Listed k e = let z = k refl in absurd (omega arith)
     by (said.Refused r) k e = refusal-not-eight r e
     by said.TooMany k e = absurd (omega arith)
