@@ -1,8 +1,8 @@
--- What the static library's functions give can be read back as the C header does: the parts of a code, and a row of bytes. Assumes
--- nothing.
+-- What the static library's functions give can be read back as the C header does (specs/Read): the parts of a code, and the row of a
+-- reading. Assumes nothing.
 use Prim.Native.Nat.{ℕ, zero, suc, _+_, _*_, _/_, _%_, _≤_, _<_}
 use native.Mathlib.Omega.{arith}
-use native.Mathlib.Nat.{mul-suc, not-suc-le-zero, le-of-suc-le-suc}
+use native.Mathlib.Nat.{not-suc-le-zero, le-of-suc-le-suc}
 use mathlib.Core.Path.{_≡_, refl, sym, ap, subst, _∙_}
 use mathlib.Core.Bool.{Bool, true, false}
 use mathlib.Core.List.{List, [], _∷_, _++_, map, append-assoc}
@@ -48,7 +48,7 @@ use Rattle.exports.proofs.Widths.{rows-long}
 use Rattle.exports.proofs.Put.{both}
 use Rattle.exports.proofs.Enough.{two-prefixes, four-segments, given-paths}
 
--- a refusal's number, which is none of 0 and 7 to 15, and the first byte of the faulty line, 0 where no line is at fault
+-- a refusal's number, and the first byte of the faulty line, 0 where no line is at fault
 pub refusal-read : (r : Refusal) → (numberOf (refusalCode r) ≡ getD (numbersOf r) 0 0) × (startOf (refusalCode r) ≡ getD (numbersOf r) 1 0)
 refusal-read WordTooLong = (refl, refl)
 refusal-read WordNotUtf8 = (refl, refl)
@@ -57,6 +57,7 @@ refusal-read SheetTooLong = (refl, refl)
 refusal-read (SheetNoForm at) = (omega arith, omega arith)
 refusal-read (SheetNotAbove at) = (omega arith, omega arith)
 
+-- the number is 1 to 6, so no answer's code has it
 pub refusal-numbered : (r : Refusal) → (1 ≤ numberOf (refusalCode r)) × (numberOf (refusalCode r) ≤ 6)
 refusal-numbered WordTooLong = (omega arith, omega arith)
 refusal-numbered WordNotUtf8 = (omega arith, omega arith)

@@ -1,6 +1,6 @@
--- What the entry promises, beyond its contract: the number that is given is the lowest that applies, that of the core call or 8; with any
--- number the slice is left as it was; without one, the readings stand at its front and its old elements behind them; it is as long as
--- before. Assumes nothing.
+-- What the entry promises, beyond its contract: the number that is given is the lowest that applies, that of the core call or 8, which is
+-- never given for 64 elements or more; with any number the slice is left as it was; without one, the readings stand at its front and
+-- its old elements behind them; it is as long as before. Assumes nothing.
 use Prim.Native.Nat.{ℕ, suc, _≤_, _<_}
 use native.Mathlib.Omega.{arith}
 use mathlib.Core.Path.{_≡_, refl, sym, ap, subst, _∙_}
