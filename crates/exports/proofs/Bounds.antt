@@ -78,11 +78,11 @@ lemma-short w s no h = omega arith
 lemma-short w s (yes name n) h = name-short s name (placeOf s 0x77 name) h refl
 
 -- what an answer about progressive forms lets be said of word, sheet and faulty line
-abbrev SmallForm : List ℕ → List ℕ → Answer → Type 0
+abbrev pub SmallForm : List ℕ → List ℕ → Answer → Type 0
 SmallForm w s (answers.Refused r) = Placed r
 SmallForm w s (answers.Given form) = (length w ≤ wordLimit) × (length s ≤ sheetLimit) × (form .«lemma_len» ≤ 210)
 
-answer-small : (w s : List ℕ) → SmallForm w s (answerOf w s)
+pub answer-small : (w s : List ℕ) → SmallForm w s (answerOf w s)
 unfolding answerOf
 answer-small w s = by (inputsOf w s) refl
   where

@@ -1,18 +1,40 @@
--- Buffers that are always long enough: 1,152 bytes for the readings of a word, 528 for its root candidates. Assumes nothing.
+-- Buffers that are always long enough: 1,152 bytes for the readings of a word, 528 for its root candidates, 35,466 for the list of its
+-- readings as a text. Assumes nothing.
 use Prim.Native.Nat.{ℕ, _*_, _≤_}
 use native.Mathlib.Omega.{arith}
-use mathlib.Core.Path.{_≡_, refl, sym, ap}
-use mathlib.Core.List.{List, _++_}
-use lib.ListN.{length, drop}
+use native.Mathlib.Nat.{suc-mul}
+use mathlib.Core.Path.{_≡_, refl, sym, ap, subst, _∙_}
+use mathlib.Core.Bool.{true}
+use mathlib.Core.List.{List, [], _∷_, _++_, map, reverse, List·Memᴰ, List·Memᴰ·head, List·Memᴰ·tail}
+use lib.ListN.{length, drop, replicate, length-append, length-replicate, length-map}
+use lib.Seq.{length-take-le}
+use lib.Dec.{leb}
+use borrow.Author.Tests.{le-leb}
 use Rattle.sheet.specs.Inputs.{inputsOf}
+use Rattle.sheet.specs.Replies.{Ask, reply}
+use Rattle.sheet.specs.declared.inputs.Refusal.{Refusal}
+use Rattle.sheet.specs.declared.inputs.Refusal.the-variants.{WordTooLong, WordNotUtf8, WordForbidden, SheetTooLong, SheetNoForm, SheetNotAbove}
 use Rattle.sheet.specs.declared.inputs.Inputs.{Inputs}
 use Rattle.sheet.specs.declared.inputs.Inputs.the-variants as inputs
+use Rattle.sheet.proofs.Refusals.{accepted-each}
+use Rattle.decomposition.proofs.Short.{word-short}
+use Rattle.ranking.specs.Lists.{Rows}
+use Rattle.ranking.specs.declared.Reading.{Reading}
+use Rattle.paths.specs.Chains.{Route}
+use Rattle.paths.specs.Counted.{AtLeast}
+use Rattle.paths.specs.Readings.{IsReading, readingOf, filled, noSegment, segmentOf}
+use Rattle.paths.proofs.Promises.{Listed}
 use Rattle.roots.specs.Answers.{rootsFor}
 use Rattle.roots.proofs.Bounded.{roots-few}
 use Rattle.analysis.specs.declared.entry.Said.{Said}
 use Rattle.analysis.specs.declared.entry.Said.the-variants as said
-use Rattle.analysis.specs.Answers.{saidOf, rowsGiven}
-use Rattle.analysis.proofs.Promises.{rows-few}
+use Rattle.analysis.specs.Answers.{collected, saidBy, saidOf, rowsGiven, saidNumbers}
+use Rattle.analysis.proofs.Promises.{rows-few, seven-exactly, all-listed}
+use Rattle.listing.specs.Texts.{rowText, rowTexts, listingText, rowRoom, listingRoom}
+use Rattle.listing.specs.Placed.{writtenOf}
+use Rattle.listing.specs.Printed.{outcomeBy, outcomeOf, leftBy, leftOf}
+use Rattle.listing.proofs.Room.{reading-size, listing-size}
+use Rattle.exports.specs.Codes.{refusalCode, outcomeCode}
 use Rattle.exports.specs.Rows.{Filled, each, rowsFilled, readingBytes, readingsIf, readingsFilled}
 use Rattle.exports.specs.Filled.{candidateBytes, candidatesIf, candidatesFilled}
 use Rattle.exports.proofs.Widths.{rows-long}
@@ -36,3 +58,93 @@ candidates-enough w s out h e =
     let n = roots-few w s in
     let f : rowsFilled 33 candidateBytes (rootsFor w s) out ≡ candidatesIf (inputsOf w s) (rootsFor w s) out = ap (λ (x : Inputs). candidatesIf x (rootsFor w s) out) (sym e) in
     both f (rows-long candidateBytes 33 (length (rootsFor w s)) (rootsFor w s) out refl _ (omega arith) refl)
+
+-- where a list is given, word and sheet are accepted
+listed-accepted : (w s : List ℕ) → saidOf w s ≡ said.Listed → inputsOf w s ≡ inputs.Accepted
+unfolding saidOf
+listed-accepted w s e = by (inputsOf w s) (collected w s) e
+  where
+    by : (i : Inputs) (c : Rows) → saidBy i c ≡ said.Listed → i ≡ inputs.Accepted
+    by inputs.Accepted c e = refl
+    by (inputs.Refused r) c e = cc
+
+filled-long : {A : Type 0} (n : ℕ) (d : A) (xs : List A) → length (filled n d xs) ≡ n
+filled-long n d xs =
+    let a = length-append xs (replicate n d) in
+    let r = length-replicate n d in
+    length-take-le n (xs ++ replicate n d) (omega arith)
+
+-- a listed reading has two places for prefixes and four for segments
+pub two-prefixes : (ask : Ask) (w : List ℕ) (p : Route) → length (readingOf ask w p .prefixes) ≡ 2
+unfolding readingOf
+two-prefixes ask w p = filled-long 2 0 (p .prefixRows)
+
+pub four-segments : (ask : Ask) (w : List ℕ) (p : Route) → length (readingOf ask w p .segments) ≡ 4
+unfolding readingOf
+four-segments ask w p = filled-long 4 noSegment (reverse (map (segmentOf ask) (p .strips)))
+
+-- each row of a list has at most 554 bytes
+rows-size : (ask : Ask) (w : List ℕ) (ps : List Route) → length w ≤ 192 → ((p : Route) → List·Memᴰ p ps → readingOf ask w p .score ≤ 612)
+    → length (rowTexts w (map (readingOf ask w) ps)) ≤ length ps * rowRoom
+rows-size ask w [] h k = omega arith
+rows-size ask w (p ∷ ps) h k =
+    let c = k p (List·Memᴰ·head refl) in
+    let a : length (rowText w (readingOf ask w p)) ≤ 554 = reading-size w (readingOf ask w p) h (two-prefixes ask w p) (four-segments ask w p) (omega arith) in
+    let r = rows-size ask w ps h (λ q m. k q (List·Memᴰ·tail m)) in
+    let l = length-append (rowText w (readingOf ask w p)) (rowTexts w (map (readingOf ask w) ps)) in
+    let m = suc-mul (length ps) rowRoom in
+    omega arith
+
+-- of a list that is given, the paths whose readings its rows are, and how long the word is
+pub given-paths : (w s : List ℕ) → saidOf w s ≡ said.Listed → (length w ≤ 192) × Listed (reply s) w (rowsGiven w s)
+given-paths w s e =
+    let a = accepted-each w s (listed-accepted w s e) in
+    let few : AtLeast 65 (IsReading (reply s) w) → ⊥ =
+    (λ m. let z : _≡_ {A = ℕ} 0 1 = ap (length {A = ℕ}) (ap saidNumbers (sym e) ∙ seven-exactly w s (a .0) (a .1) .1 m) in absurd (omega arith)) in
+    (word-short w (a .0), all-listed w s (a .0) (a .1) few .1)
+
+-- the text of a list that is given has at most 35,466 bytes
+pub listing-bounded : (w s : List ℕ) → saidOf w s ≡ said.Listed → length (listingText w (rowsGiven w s)) ≤ listingRoom
+listing-bounded w s e =
+    let g = given-paths w s e in
+    by (rowsGiven w s) (g .0) (g .1) (rows-few w s)
+  where
+    by : (rs : List Reading) → length w ≤ 192 → Listed (reply s) w rs → length rs ≤ 64 → length (listingText w rs) ≤ listingRoom
+    by rs h l f =
+        let n : length rs ≡ length (l .paths) = ap (length {A = Reading}) (sym (l .rows-are)) ∙ length-map (l .paths) (readingOf (reply s) w) in
+        let t : length (rowTexts w (map (readingOf (reply s) w) (l .paths))) ≤ length (l .paths) * rowRoom = rows-size (reply s) w (l .paths) h (l .scores h) in
+        let u : length (rowTexts w rs) ≤ length (l .paths) * rowRoom = subst (λ (xs : List Reading). length (rowTexts w xs) ≤ length (l .paths) * rowRoom) (l .rows-are) t in
+        listing-size w rs (length (l .paths)) (omega arith) (sym n) u
+
+-- so in a buffer of so many bytes the text stands whole
+pub listing-whole : (w s out : List ℕ) → listingRoom ≤ length out → saidOf w s ≡ said.Listed →
+    (16 * length (listingText w (rowsGiven w s)) ≡ outcomeCode (outcomeOf w s out))
+    × (listingText w (rowsGiven w s) ++ drop (length (listingText w (rowsGiven w s))) out ≡ leftOf w s out)
+unfolding outcomeOf leftOf
+listing-whole w s out h e =
+    let text = listingText w (rowsGiven w s) in
+    let m = listing-bounded w s e in
+    let t : leb (length text) (length out) ≡ true = le-leb (length text) (length out) (omega arith) in
+    let c : outcomeCode (outcomeBy said.Listed (writtenOf text out)) ≡ 16 * length text = rw t in
+    let f : leftBy said.Listed text out ≡ text ++ drop (length text) out = rw t in
+    (sym c ∙ ap (λ (x : Said). outcomeCode (outcomeBy x (writtenOf text out))) (sym e), sym f ∙ ap (λ (x : Said). leftBy x text out) (sym e))
+
+-- no refusal's code is 8
+refusal-not-eight : (r : Refusal) → refusalCode r ≡ 8 → ⊥
+refusal-not-eight WordTooLong e = absurd (omega arith)
+refusal-not-eight WordNotUtf8 e = absurd (omega arith)
+refusal-not-eight WordForbidden e = absurd (omega arith)
+refusal-not-eight SheetTooLong e = absurd (omega arith)
+refusal-not-eight (SheetNoForm at) e = absurd (omega arith)
+refusal-not-eight (SheetNotAbove at) e = absurd (omega arith)
+
+-- and the code of `yunthirel_listing` is never 8
+pub listing-enough : (w s out : List ℕ) → listingRoom ≤ length out → outcomeCode (outcomeOf w s out) ≡ 8 → ⊥
+unfolding outcomeOf
+listing-enough w s out h e = by (saidOf w s) (λ g. listing-whole w s out h g .0 ∙ e) e
+  where
+    by : (x : Said) → (x ≡ said.Listed → 16 * length (listingText w (rowsGiven w s)) ≡ 8)
+        → outcomeCode (outcomeBy x (writtenOf (listingText w (rowsGiven w s)) out)) ≡ 8 → ⊥
+    by said.Listed k e = let z = k refl in absurd (omega arith)
+    by (said.Refused r) k e = refusal-not-eight r e
+    by said.TooMany k e = absurd (omega arith)

@@ -2,3 +2,4 @@ pub mod Bounds
 pub mod Put
 pub mod Widths
 pub mod Enough
+pub mod Readable

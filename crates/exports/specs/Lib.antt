@@ -1,3 +1,4 @@
 pub mod Codes
 pub mod Rows
 pub mod Filled
+pub mod Read

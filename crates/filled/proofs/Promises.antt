@@ -1,6 +1,6 @@
--- What the entry promises, beyond its contract: the number that is given is the lowest that applies, that of the core call or 8; with any
--- number the slice is left as it was; without one, the readings stand at its front and its old elements behind them; it is as long as
--- before. Assumes nothing.
+-- What the entry promises, beyond its contract: the number that is given is the lowest that applies, that of the core call or 8, which is
+-- never given for 64 elements or more; with any number the slice is left as it was; without one, the readings stand at its front and
+-- its old elements behind them; it is as long as before. Assumes nothing.
 use Prim.Native.Nat.{ℕ, suc, _≤_, _<_}
 use native.Mathlib.Omega.{arith}
 use mathlib.Core.Path.{_≡_, refl, sym, ap, subst, _∙_}
@@ -17,11 +17,12 @@ use Rattle.sheet.specs.declared.inputs.Inputs.the-variants as inputs
 use Rattle.sheet.specs.declared.inputs.Refusal.{Refusal}
 use Rattle.sheet.specs.declared.inputs.Refusal.the-variants.{WordTooLong, WordNotUtf8, WordForbidden, SheetTooLong, SheetNoForm, SheetNotAbove}
 use Rattle.sheet.proofs.Refusals.{lowest}
-use Rattle.ranking.specs.Lists.{Rows, rows, over}
+use Rattle.ranking.specs.Lists.{listLimit, Rows, rows, over}
 use Rattle.ranking.specs.declared.Reading.{Reading}
 use Rattle.analysis.specs.declared.entry.Said.{Said}
 use Rattle.analysis.specs.declared.entry.Said.the-variants as said
 use Rattle.analysis.specs.Answers.{collected, listedRows, saidBy, rowsBy, saidOf, rowsGiven, saidNumbers}
+use Rattle.analysis.proofs.Promises.{rows-few}
 use Rattle.filled.proofs.Mixed.{over-length}
 use Rattle.filled.specs.declared.Filled.{Filled}
 use Rattle.filled.specs.declared.Filled.the-variants.{Wrote, Refused, TooMany, TooShort}
@@ -96,6 +97,13 @@ eight-exactly w s room = (
       let z : filledNumbers (filledBy said.Listed (length (rowsGiven w s)) room) ≡ 8 ∷ [] = rw (lt-leb (length (rowsGiven w s)) room (h .1)) in
       ap (λ (x : Said). filledNumbers (filledBy x (length (rowsGiven w s)) room)) (h .0) ∙ z),
 )
+
+-- so a slice of 64 elements is always long enough
+pub enough : (w s : List ℕ) (room : ℕ) → listLimit ≤ room → filledNumbers (filledOf w s room) ≡ 8 ∷ [] → ⊥
+enough w s room h e =
+    let short : room < length (rowsGiven w s) = eight-exactly w s room .0 e .1 in
+    let n = rows-few w s in
+    absurd (omega arith)
 
 -- with any number, the slice is left as it was
 pub left : (w s : List ℕ) (old : List Reading) (n : ℕ) (ns : List ℕ) → filledNumbers (filledOf w s (length old)) ≡ n ∷ ns → outputOf w s old ≡ old

@@ -1,0 +1,63 @@
+-- How a caller reads what the static library's functions give, as the C header does: shifts and masks of a code are quotients and
+-- remainders by powers of 2, and a row of bytes is a reading. Assumes nothing.
+use Prim.Native.Nat.{ℕ, _+_, _*_, _/_, _%_}
+use mathlib.Core.List.{List, [], _∷_}
+use lib.ListN.{getD}
+use Rattle.ranking.specs.declared.AffixKind.{AffixKind}
+use Rattle.ranking.specs.declared.AffixKind.the-variants.{Particle, CaseMarker, PluralMarker, Postposition, ComparisonMarker}
+use Rattle.ranking.specs.declared.Segment.{Segment}
+use Rattle.ranking.specs.declared.Reading.{Reading}
+
+-- the lowest four bits: document 01's number of a refusal, or 0 or 15
+abbrev pub numberOf : ℕ → ℕ
+numberOf code = code % 16
+
+-- what stands above them: the first byte of the faulty line, for 5 and 6; how many rows or bytes there are, for 0
+abbrev pub startOf : ℕ → ℕ
+startOf code = code / 16
+
+abbrev pub countOf : ℕ → ℕ
+countOf code = code / 16
+
+-- the parts of a form's code
+abbrev pub negativeOf : ℕ → ℕ
+negativeOf code = code / 16 % 2
+
+abbrev pub mainEndOf : ℕ → ℕ
+mainEndOf code = code / 32 % 256
+
+abbrev pub lemmaLenOf : ℕ → ℕ
+lemmaLenOf code = code / 8192 % 256
+
+abbrev pub lemmaAtOf : ℕ → ℕ
+lemmaAtOf code = code / 2097152
+
+-- the parts of an origin's code
+abbrev pub originOf : ℕ → ℕ
+originOf code = code / 16 % 4
+
+abbrev pub sourceOf : ℕ → ℕ
+sourceOf code = code / 64 % 4
+
+-- the kind of each number
+abbrev pub kindAt : ℕ → AffixKind
+kindAt n = getD (Particle ∷ CaseMarker ∷ PluralMarker ∷ Postposition ∷ ComparisonMarker ∷ []) n Particle
+
+-- two bytes from the i-th on as a number, the low one first
+abbrev pub twoAt : List ℕ → ℕ → ℕ
+twoAt bytes i = getD bytes i 0 + 256 * getD bytes (i + 1) 0
+
+abbrev pub segmentAt : List ℕ → ℕ → Segment
+segmentAt bytes i = record { label = getD bytes i 0; kind = kindAt (getD bytes (i + 1) 0) }
+
+-- the reading whose row stands at the front
+abbrev pub readingAt : List ℕ → Reading
+readingAt bytes = record {
+  stem = twoAt bytes 0;
+  root = twoAt bytes 2;
+  score = twoAt bytes 4;
+  prefixes = getD bytes 6 0 ∷ getD bytes 7 0 ∷ [];
+  segments = segmentAt bytes 8 ∷ segmentAt bytes 10 ∷ segmentAt bytes 12 ∷ segmentAt bytes 14 ∷ [];
+  «prefix_count» = getD bytes 16 0;
+  «suffix_count» = getD bytes 17 0;
+}
