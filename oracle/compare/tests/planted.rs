@@ -286,7 +286,7 @@ fn the_rows_that_fit_written_before_a_refusal() {
         let code = ask(word, sheet, out);
         let mut all = [0; raw::READINGS_ROOM];
         let size = ROW * raw::above(ask(word, sheet, &mut all));
-        if code == 8 && out.len() >= ROW && out.len() + ROW / 2 <= size && (out.len() % ROW != 0) == within {
+        if code == 8 && out.len() >= ROW && out.len() + ROW / 2 <= size && out.len().is_multiple_of(ROW) != within {
             let whole = out.len() - out.len() % ROW;
             out[..whole].copy_from_slice(&all[..whole]);
         }
