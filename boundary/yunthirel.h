@@ -1,11 +1,14 @@
-/* Word analysis for Nepali root indexes: the functions of the static library (`rt staticlib exports`), for x86-64 programs in C and C++.
+/* Word analysis for Nepali root indexes: the functions of the static library (`rt staticlib exports`), for x86-64 programs in C (C99 or
+ * later) and C++.
  *
- * A function takes slices, each as a pointer and a number of bytes. A pointer is not NULL, with 0 bytes too; `out` is no part of the
- * word or the sheet. Every word and every sheet has an answer: nothing need be checked first. No function keeps a pointer, allocates
- * or has a state, so that threads may call them at once.
+ * A function takes slices, each as a pointer and a number of bytes. A pointer is not NULL, with 0 bytes too: data() of an empty
+ * std::vector or std::string_view may be, so C++ callers pass the address of some byte for those. `out` is no part of the word or the
+ * sheet. Every word and every sheet has an answer: nothing need be checked first. No function keeps a pointer, allocates or has a
+ * state, so that threads may call them at once.
  *
- * An answer is a code. Its lowest four bits (yunthirel_number_of) are 0 or YUNTHIREL_YES, or the number of a refusal. After a refusal
- * `out` is as it was; after an answer it is so past the answer's bytes. The texts of rows are in yunthirel_labels.h. */
+ * Each function but yunthirel_confidence, which gives a float, gives a code. A code's lowest four bits (yunthirel_number_of) are 0 or
+ * YUNTHIREL_YES, or the number of a refusal. After a refusal `out` is as it was; after an answer it is so past the answer's bytes. The
+ * texts of rows are in yunthirel_labels.h. */
 #ifndef YUNTHIREL_H
 #define YUNTHIREL_H
 
@@ -45,10 +48,10 @@ static inline size_t yunthirel_count_of(uint64_t code) {
     return (size_t)(code >> 4);
 }
 
-/* 0 for an accepted word, else 1, 2 or 3. */
+/* 0 for an accepted word; else 1, 2 or 3. */
 uint64_t yunthirel_check_word(const uint8_t *word, size_t word_len);
 
-/* 0 for an accepted sheet, else 4, 5 or 6. The functions below make this check by themselves. */
+/* 0 for an accepted sheet; else a code whose number is 4, 5 or 6. The functions below make this check by themselves. */
 uint64_t yunthirel_check_sheet(const uint8_t *sheet, size_t sheet_len);
 
 /* Readings. A stem is the word's first `stem` bytes, its root the stem from byte `root` on. Prefix rows, outermost first, are those of
@@ -82,13 +85,14 @@ struct yunthirel_reading {
 #define YUNTHIREL_LISTING_BYTES 35466
 
 /* The word's readings in rank order: `out` takes an array of struct yunthirel_reading, and its length is in bytes, as everywhere.
- * 16 times the number of readings; else 1 to 8. */
+ * 16 times the number of readings; else a code whose number is 1 to 8. */
 uint64_t yunthirel_readings(const uint8_t *word, size_t word_len, const uint8_t *sheet, size_t sheet_len, uint8_t *out, size_t out_len);
 
-/* The same list as text, as the program `readings` prints it, without a 0 at its end. 16 times the number of bytes; else 1 to 8. */
+/* The same list as text, as the program `readings` prints it, without a 0 at its end. 16 times the number of bytes; else a code
+ * whose number is 1 to 8. */
 uint64_t yunthirel_listing(const uint8_t *word, size_t word_len, const uint8_t *sheet, size_t sheet_len, uint8_t *out, size_t out_len);
 
-/* YUNTHIREL_YES where the word has a reading, 0 where it has none; else 1 to 7. */
+/* YUNTHIREL_YES where the word has a reading, 0 where it has none; else a code whose number is 1 to 7. */
 uint64_t yunthirel_has_analysis(const uint8_t *word, size_t word_len, const uint8_t *sheet, size_t sheet_len);
 
 /* Root candidates, and the decomposition, which has neither `known` nor `score` (both 0). The root is the word from byte `start` up to
@@ -114,13 +118,15 @@ static inline uint16_t yunthirel_root_score(const struct yunthirel_root *root) {
     return (uint16_t)(root->score[0] | root->score[1] << 8);
 }
 
-/* The word's root candidates in rank order: `out` takes an array of struct yunthirel_root. 16 times their number; else 1 to 6, or 8. */
+/* The word's root candidates in rank order: `out` takes an array of struct yunthirel_root. 16 times their number; else a
+ * code whose number is 1 to 6, or 8. */
 uint64_t yunthirel_candidates(const uint8_t *word, size_t word_len, const uint8_t *sheet, size_t sheet_len, uint8_t *out, size_t out_len);
 
-/* The word's decomposition: `out` takes one struct yunthirel_root. 0; else 1 to 6, or 8. */
+/* The word's decomposition: `out` takes one struct yunthirel_root. 0; else a code whose number is 1 to 6, or 8. */
 uint64_t yunthirel_decompose(const uint8_t *word, size_t word_len, const uint8_t *sheet, size_t sheet_len, uint8_t *out, size_t out_len);
 
-/* The word as a progressive form: 0 for none, else YUNTHIREL_YES with the places that yunthirel_form_of reads; else 1 to 6. */
+/* The word as a progressive form: 0 for none, a code whose number is YUNTHIREL_YES, with the places that yunthirel_form_of reads, for
+ * one; else a code whose number is 1 to 6. */
 uint64_t yunthirel_progressive(const uint8_t *word, size_t word_len, const uint8_t *sheet, size_t sheet_len);
 
 /* The main form is the word's first `main_end` bytes, the auxiliary the rest; the lemma is a part of the sheet. */
@@ -140,10 +146,11 @@ static inline struct yunthirel_form yunthirel_form_of(uint64_t code) {
     return form;
 }
 
-/* YUNTHIREL_YES where the word is a supported progressive form, 0 where it is none; else 1 to 6. */
+/* YUNTHIREL_YES where the word is a supported progressive form, 0 where it is none; else a code whose number is 1 to 6. */
 uint64_t yunthirel_has_progressive(const uint8_t *word, size_t word_len, const uint8_t *sheet, size_t sheet_len);
 
-/* Where the word comes from and how that is known, which the two functions below it read from the code; else 1 to 6. */
+/* Where the word comes from and how that is known, which yunthirel_origin_of and yunthirel_source_of read from a code whose number
+ * is 0; else a code whose number is 1 to 6. */
 uint64_t yunthirel_origin(const uint8_t *word, size_t word_len, const uint8_t *sheet, size_t sheet_len);
 
 enum yunthirel_source { YUNTHIREL_OVERRIDE = 0, YUNTHIREL_KOSHA = 1, YUNTHIREL_HEURISTIC = 2, YUNTHIREL_UNKNOWN = 3 };

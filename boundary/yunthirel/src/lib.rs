@@ -19,9 +19,14 @@
 //! # Ok::<(), yunthirel::Refusal>(())
 //! ```
 //!
-//! Functions and fields have the names of the Rust source that the library is a port of. Texts are parts of what was lent: stems
-//! and roots of the word, a lemma of the sheet. A function of the library that gives a code which is none of its answers makes
-//! this crate panic: then the archive and this crate do not belong together.
+//! Functions and fields have the names of the Rust source that the library is a port of, except that its `AffixAnalysis` is
+//! [`Reading`] here. Left out are the fields `surface`, `suffixes` and `prefix_segments` of analyses, the kind `Prefix`, and the
+//! functions `is_documented`, `supported_origin` and `source_language`; [`check_word`], [`check_sheet`] and [`write_readings`] are
+//! not the source's. Texts are parts of what was lent: stems and roots of the word, a lemma of the sheet.
+//!
+//! A code or row of the library that cannot be read as an answer makes this crate panic: then the archive and this crate do not
+//! belong together. Numbers, places, ranges and unused bytes are checked, as each `of_code` and `of_row` says; whether an answer is
+//! the right one is not.
 //!
 //! [`raw`] has the library's functions as they are, for callers with buffers of their own. It is the one module with unsafe code:
 //! the crate denies it, each other module forbids it, and this file holds no code.

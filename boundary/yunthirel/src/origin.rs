@@ -70,7 +70,9 @@ pub struct OriginDecision {
 }
 
 impl OriginDecision {
-    /// The decision that a code of [`raw::origin`] and the number of [`raw::confidence`] say; none for codes that say none.
+    /// The decision that a code of [`raw::origin`] and the number of [`raw::confidence`] say; none for codes that cannot be read as one.
+    ///
+    /// Checked is that nothing but origin and source stands in the code; the confidence is taken as it is.
     pub fn of_code(code: u64, confidence: f32) -> Option<OriginDecision> {
         if raw::number(code) != 0 || code >> 8 != 0 {
             return None;

@@ -20,7 +20,10 @@ pub struct ProgressiveAnalysis<'w, 's> {
 }
 
 impl<'w, 's> ProgressiveAnalysis<'w, 's> {
-    /// The form that a code of [`raw::progressive`] says for this word and sheet; none for codes that say no form of them.
+    /// The form that a code of [`raw::progressive`] says for this word and sheet; none for codes that cannot be read as one.
+    ///
+    /// Checked is that the number is 15, that the main form and the rest are parts of the word and UTF-8, and that the lemma is a part
+    /// of the sheet, UTF-8 and not empty; not that the library gives this code.
     pub fn of_code(word: &'w [u8], sheet: &'s [u8], code: u64) -> Option<ProgressiveAnalysis<'w, 's>> {
         if raw::number(code) != 15 {
             return None;
@@ -29,7 +32,7 @@ impl<'w, 's> ProgressiveAnalysis<'w, 's> {
         let lemma_at = (code >> 21) as usize;
         Some(ProgressiveAnalysis {
             main_form: word.get(..main_end).and_then(text)?,
-            main_lemma: sheet.get(lemma_at..)?.get(..lemma_len).and_then(text)?,
+            main_lemma: sheet.get(lemma_at..)?.get(..lemma_len).and_then(text).filter(|lemma| !lemma.is_empty())?,
             auxiliary_form: word.get(main_end..).and_then(text)?,
             auxiliary_lemma: "रहनु",
             negative: code >> 4 & 1 != 0,

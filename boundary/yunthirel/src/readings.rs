@@ -69,7 +69,10 @@ pub struct Reading<'w> {
 }
 
 impl<'w> Reading<'w> {
-    /// The reading that a row of [`raw::readings`] is for this word; none for bytes that are no reading of it.
+    /// The reading that a row of [`raw::readings`] is for this word; none for bytes that cannot be read as one.
+    ///
+    /// Checked is that stem and root are parts of the word and UTF-8, that counts, rows and kinds are in their ranges, and that places
+    /// which are not used are 0; not that the library gives this row, nor its score.
     pub fn of_row(word: &'w [u8], row: &[u8; READING_ROW]) -> Option<Reading<'w>> {
         let number = |at: usize| u16::from_le_bytes([row[at], row[at + 1]]);
         let stem = std::str::from_utf8(word.get(..usize::from(number(0)))?).ok()?;

@@ -36,7 +36,8 @@ pub enum Refusal {
 const SHEET_LIMIT: usize = 65_536;
 
 impl Refusal {
-    /// The refusal that a code of [`raw`](crate::raw) says, or none where it says no refusal.
+    /// The refusal that a code of [`raw`](crate::raw) says, or none where it cannot be read as one: for another number, or for anything
+    /// above the number but a place in a sheet for 5 and 6.
     pub fn of_code(code: u64) -> Option<Refusal> {
         let start = raw::above(code);
         match (raw::number(code), start) {
@@ -106,7 +107,7 @@ pub(crate) fn refused(function: &str, possible: RangeInclusive<u8>, code: u64) -
     refusal.unwrap_or_else(|| no_answer(function, &format!("gave {code:#x}")))
 }
 
-/// For what the library never gives: a wrong answer would be worse.
+/// For what cannot be read as an answer: the library gives none such, and a wrong answer would be worse.
 pub(crate) fn no_answer(function: &str, what: &str) -> ! {
     panic!("{function} {what}, which is none of its answers: the archive and this crate do not belong together")
 }

@@ -39,7 +39,10 @@ pub struct RootCandidate<'w> {
 }
 
 impl<'w> Morpheme<'w> {
-    /// The decomposition that the bytes of [`raw::decompose`] are for this word; none for bytes that are no decomposition of it.
+    /// The decomposition that the bytes of [`raw::decompose`] are for this word; none for bytes that cannot be read as one.
+    ///
+    /// Checked is that the root is a part of the word and UTF-8, that counts, rows and origin are in their ranges, and that places
+    /// which are not used are 0, those of letters and score among them; not that the library gives this row.
     pub fn of_row(word: &'w [u8], row: &[u8; CANDIDATE_ROW]) -> Option<Morpheme<'w>> {
         let Parts { root, prefixes, suffixes, origin } = Parts::of_row(word, row)?;
         (row[6..9] == [0; 3]).then_some(Morpheme { root, prefixes, suffixes, origin })
@@ -47,7 +50,10 @@ impl<'w> Morpheme<'w> {
 }
 
 impl<'w> RootCandidate<'w> {
-    /// The candidate that a row of [`raw::candidates`] is for this word; none for bytes that are no candidate of it.
+    /// The candidate that a row of [`raw::candidates`] is for this word; none for bytes that cannot be read as one.
+    ///
+    /// Checked is that the root is a part of the word and UTF-8, that counts, rows, origin and letters are in their ranges, and that
+    /// places which are not used are 0; not that the library gives this row, nor its score.
     pub fn of_row(word: &'w [u8], row: &[u8; CANDIDATE_ROW]) -> Option<RootCandidate<'w>> {
         let Parts { root, prefixes, suffixes, origin } = Parts::of_row(word, row)?;
         // A candidate is known by w, by h or by both.

@@ -81,6 +81,23 @@ fn a_refusal_leaves_the_buffer() {
 }
 
 #[test]
+fn codes_of_no_form_are_not_read() {
+    use yunthirel::ProgressiveAnalysis;
+    let (word, sheet) = ("नखाइरहेको".as_bytes(), "(w खानु (hv))\n(w रहनु (hv))\n".as_bytes());
+    let code = raw::progressive(word, sheet);
+    assert!(ProgressiveAnalysis::of_code(word, sheet, code).is_some());
+    // The number alone, so that main form and lemma are empty; a lemma of 0 bytes; a lemma without its last byte; other numbers.
+    for other in [15, code & !(0xFF << 13), code - (1 << 13), code - 15, code - 1] {
+        assert_eq!(ProgressiveAnalysis::of_code(word, sheet, other), None, "{other:#x}");
+    }
+    // The main form a byte longer and past the word, the lemma a byte on, past the sheet and far past it.
+    for more in [1 << 5, 0x40 << 5, 1 << 21, 60 << 21, u64::MAX / 2] {
+        let other = code.wrapping_add(more);
+        assert_eq!(ProgressiveAnalysis::of_code(word, sheet, other), None, "{other:#x}");
+    }
+}
+
+#[test]
 fn rows_that_are_no_answer_are_not_read() {
     let word = "घरले".as_bytes();
     let mut row = [0; raw::READING_ROW];

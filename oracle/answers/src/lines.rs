@@ -28,6 +28,7 @@ pub struct Each {
     pub progressive: String,
     pub has_progressive: String,
     pub origin: String,
+    pub classify: String,
 }
 
 /// Each answer for an accepted word under the sheet in force. The source's `best_analysis`, `has_supported_analysis`, `best_root` and
@@ -51,6 +52,7 @@ pub fn each(word: &str) -> Each {
         progressive: without_end(progressive(word)),
         has_progressive: without_end(has_progressive(word)),
         origin: without_end(origin(word)),
+        classify: format!("classify {}", tag(shabda::classify(word))),
     }
 }
 

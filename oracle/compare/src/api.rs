@@ -26,6 +26,7 @@ fn asked(word: &[u8], sheet: &[u8]) -> Answers {
         said(yunthirel::analyze_progressive(word, sheet), texts::progressive),
         said(yunthirel::has_supported_progressive_form(word, sheet), |yes| texts::yes_or_no("has_progressive", yes)),
         said(yunthirel::classify_with_provenance(word, sheet), texts::origin),
+        said(yunthirel::classify(word, sheet), texts::classify),
     ]
 }
 

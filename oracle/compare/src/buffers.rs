@@ -11,8 +11,8 @@ const MORE: usize = 64;
 static OLD: LazyLock<Vec<u8>> = LazyLock::new(|| (0..LISTING_ROOM + MORE).map(|at| (at % 251) as u8 ^ 0xA5).collect());
 
 /// The code and the answer's bytes, `size_of(code)` many and never more than `room`; for a refusal, no bytes. Else what is wrong:
-/// past the answer and after a refusal a buffer must hold what it held; one that is a byte too short is refused with 8 and left, and
-/// one that just fits is filled with the same bytes, whatever it held.
+/// past the answer and after a refusal a buffer must hold what it held; one without a byte, one of half the answer and one that is a
+/// byte too short are refused with 8 and left, and one that just fits is filled with the same bytes, whatever it held.
 pub fn filled(
     ask: impl Fn(&mut [u8]) -> u64,
     room: usize,
@@ -35,7 +35,8 @@ pub fn filled(
         return Err(format!("{code:#x}, and wrote past {size} bytes"));
     }
     out.truncate(size);
-    if let Some(short) = size.checked_sub(1) {
+    // Half of an even number of rows ends with a row, half of an odd number within one.
+    for short in [0, size / 2, size.saturating_sub(1)].into_iter().filter(|&short| short < size) {
         let mut buffer = before[..short].to_vec();
         let again = ask(&mut buffer);
         if again != 8 || buffer != before[..short] {

@@ -13,6 +13,8 @@ pub struct Words {
     lexicon: HashMap<String, String>,
     /// What fills a sheet: the lexicon's names with their letters, and then names that are made up.
     filling: Vec<(String, String)>,
+    /// The lexicon's names in नु, which link lines name.
+    infinitives: Vec<String>,
     seed: u64,
 }
 
@@ -42,6 +44,8 @@ impl Words {
                 filling.push((name.to_string(), letters));
             }
         }
+        let names = filling.iter().map(|(name, _)| name);
+        let infinitives = names.filter(|name| name.ends_with("नु")).cloned().collect();
         for _ in 0..MADE_UP {
             let name = made_up(&mut random);
             if !lexicon.contains_key(&name) {
@@ -49,7 +53,7 @@ impl Words {
                 filling.push((name, letters));
             }
         }
-        Words { words, lexicon, filling, seed }
+        Words { words, lexicon, filling, infinitives, seed }
     }
 
     /// A lexicon that knows these names by w and nothing else, with names that are made up to fill a sheet.
@@ -58,7 +62,7 @@ impl Words {
         let lexicon: HashMap<String, String> = names.iter().map(|name| (name.to_string(), "w".to_string())).collect();
         let made = (0..MADE_UP).map(|_| made_up(&mut random)).collect::<Vec<_>>();
         let filling = made.into_iter().filter(|name| !lexicon.contains_key(name)).map(|name| (name, "wh".to_string()));
-        Words { words: Vec::new(), filling: filling.collect(), lexicon, seed }
+        Words { words: Vec::new(), filling: filling.collect(), lexicon, infinitives: Vec::new(), seed }
     }
 
     /// Two cases a word.
@@ -69,21 +73,47 @@ impl Words {
     pub fn case(&self, index: u64) -> Case {
         let word = self.words[(index / 2) as usize].clone();
         let full = index % 2 == 1;
+        let mut random = Random::for_case(self.seed, index);
         let mut lines = BTreeMap::new();
+        // Kind lines, then link lines: what stands before the `w` lines.
+        let mut others = kinds(&mut random);
         if let Some(text) = name(&word) {
             self.answer(text, &mut lines);
+            for (link, infinitive) in self.links(text, &mut random) {
+                others.push_str(&format!("(l {link} ({infinitive}))\n"));
+                // Some infinitives have no line: then the link decides that there is no lemma.
+                if random.chance(60) {
+                    lines.insert(infinitive, &self.lexicon[infinitive]);
+                }
+            }
             // The word itself is known on the full sheet alone.
             if !full {
                 lines.remove(text);
             }
         }
-        let mut random = Random::for_case(self.seed, index);
-        let kinds = kinds(&mut random);
         if full {
             let from = random.below(self.filling.len());
-            fill(SHEET_LIMIT - kinds.len(), self.filling[from..].iter().chain(&self.filling[..from]), &mut lines);
+            fill(SHEET_LIMIT - others.len(), self.filling[from..].iter().chain(&self.filling[..from]), &mut lines);
         }
-        Case { word, sheet: (kinds + &written(&lines)).into_bytes() }
+        Case { word, sheet: (others + &written(&lines)).into_bytes() }
+    }
+
+    /// Some of the word's runs that end as a link does, ascending, each with an infinitive of the lexicon.
+    fn links<'a, 'w>(&'a self, word: &'w str, random: &mut Random) -> BTreeMap<&'w str, &'a str> {
+        let mut links = BTreeMap::new();
+        if self.infinitives.is_empty() {
+            return links;
+        }
+        for (at, last) in word.char_indices().filter(|&(_, last)| matches!(last, 'ि' | 'इ')) {
+            let end = at + last.len_utf8();
+            for (from, _) in word[..end].char_indices() {
+                if links.len() < LINKS && random.chance(25) {
+                    let infinitive = &self.infinitives[random.below(self.infinitives.len())];
+                    links.insert(&word[from..end], infinitive.as_str());
+                }
+            }
+        }
+        links
     }
 
     /// A sheet for the word, without kind lines. What fills it is spread over the whole lexicon.
@@ -178,6 +208,9 @@ fn kinds(random: &mut Random) -> String {
     texts.retain(|_| random.chance(10));
     texts.iter().map(|text| format!("(k {text} ({}))\n", random.pick(&["post", "comp"]))).collect()
 }
+
+/// Link lines of a sheet at most, so that all of them fit.
+const LINKS: usize = 16;
 
 /// More lines than a sheet can hold.
 const MADE_UP: usize = 4_000;

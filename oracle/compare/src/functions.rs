@@ -44,6 +44,7 @@ pub fn answers(functions: &Functions, case: &Case) -> Answers {
     let (word, sheet) = (&case.word[..], &case.sheet[..]);
     let [readings, best_analysis] = readings(functions, word, sheet);
     let [candidates, best_root, has_known_root] = candidates(functions, word, sheet);
+    let [origin, classify] = origin((functions.origin)(word, sheet), (functions.confidence)(word, sheet));
     [
         check((functions.check_word)(word)),
         check((functions.check_sheet)(sheet)),
@@ -57,7 +58,8 @@ pub fn answers(functions: &Functions, case: &Case) -> Answers {
         decomposition(functions, word, sheet),
         progressive(word, sheet, (functions.progressive)(word, sheet)),
         yes_or_no("has_progressive", (functions.has_progressive)(word, sheet)),
-        origin((functions.origin)(word, sheet), (functions.confidence)(word, sheet)),
+        origin,
+        classify,
     ]
 }
 
@@ -176,11 +178,11 @@ fn is_name(sheet: &[u8], part: &str) -> bool {
     head.is_some_and(|head| head.is_empty() || head.ends_with(b"\n")) && after.starts_with(b" ")
 }
 
-/// A refusal has confidence 0.0.
-fn origin(code: u64, confidence: f32) -> String {
+/// The decision, and its origin alone. A refusal has confidence 0.0.
+fn origin(code: u64, confidence: f32) -> [String; 2] {
     match (OriginDecision::of_code(code, confidence), confidence.to_bits()) {
-        (Some(found), _) => texts::origin(found),
-        (None, 0) => refused(code),
-        (None, bits) => format!("{} with confidence {bits:08X}", refused(code)),
+        (Some(found), _) => [texts::origin(found), texts::classify(found.origin)],
+        (None, 0) => [refused(code), refused(code)],
+        (None, bits) => [format!("{} with confidence {bits:08X}", refused(code)), refused(code)],
     }
 }

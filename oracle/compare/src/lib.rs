@@ -19,7 +19,7 @@ use blocks::Case;
 use functions::LIBRARY;
 
 /// What is asked, in the order of an answer's texts.
-pub const NAMES: [&str; 13] = [
+pub const NAMES: [&str; 14] = [
     "check_word",
     "check_sheet",
     "readings",
@@ -33,6 +33,7 @@ pub const NAMES: [&str; 13] = [
     "progressive",
     "has_progressive",
     "origin",
+    "classify",
 ];
 
 /// The answers to all questions.
@@ -91,4 +92,5 @@ pub const QUESTIONS: &[Question] = &[
     Question::at::<10>(),
     Question::at::<11>(),
     Question::at::<12>(),
+    Question::at::<13>(),
 ];

@@ -24,6 +24,7 @@ pub fn answers(case: &Case) -> Answers {
                 progressive,
                 has_progressive,
                 origin,
+                classify,
             } = answers::each(word, &forms);
             // Rows and text are the same list.
             let readings = listing.clone();
@@ -41,6 +42,7 @@ pub fn answers(case: &Case) -> Answers {
                 progressive,
                 has_progressive,
                 origin,
+                classify,
             ]
         }
         // The word's numbers are the lower ones.

@@ -1,7 +1,7 @@
 //! What the library gives, written as the oracle writes it.
 
 use crate::Answers;
-use yunthirel::{AffixSegment, Morpheme, OriginDecision, ProgressiveAnalysis, Reading, Refusal, RootCandidate};
+use yunthirel::{AffixSegment, Morpheme, Origin, OriginDecision, ProgressiveAnalysis, Reading, Refusal, RootCandidate};
 
 /// What a check says of a word or a sheet without fault.
 pub const ACCEPTED: &str = "accepted";
@@ -99,6 +99,10 @@ pub fn progressive(found: Option<ProgressiveAnalysis>) -> String {
 
 pub fn origin(found: OriginDecision) -> String {
     format!("origin {} {} {:08X}", found.origin.letter(), found.source.as_str(), found.confidence.to_bits())
+}
+
+pub fn classify(origin: Origin) -> String {
+    format!("classify {}", origin.letter())
 }
 
 pub fn yes_or_no(question: &str, yes: bool) -> String {

@@ -66,7 +66,7 @@ pub const OTHERS: [Answer; 4] = [
 ];
 
 /// Microseconds, each the smallest of some rounds or a sum of such.
-#[derive(Clone, Copy, Default)]
+#[derive(Clone, Copy)]
 pub struct Times {
     /// The Rust's answer. Its lexicon is in memory; nothing is checked.
     pub rust: f64,
@@ -75,15 +75,19 @@ pub struct Times {
     /// The library's check of the sheet alone.
     pub check: f64,
     /// The same call on the same sheet without its last byte: refused at the last line, so that all is checked and nothing is asked.
-    pub refused: f64,
+    /// None where there is an empty sheet, which has no line to be refused.
+    pub refused: Option<f64>,
 }
 
 impl Times {
+    /// The sum of no times.
+    pub const ZERO: Times = Times { rust: 0.0, call: 0.0, check: 0.0, refused: Some(0.0) };
+
     pub fn add(&mut self, other: Times) {
         self.rust += other.rust;
         self.call += other.call;
         self.check += other.check;
-        self.refused += other.refused;
+        self.refused = self.refused.zip(other.refused).map(|(sum, more)| sum + more);
     }
 
     /// The Rust's time against the port's, the check of the sheet counted apart.
@@ -92,15 +96,16 @@ impl Times {
     }
 
     /// The same with the refused call counted apart: for large sheets, where two codes that check differ by more than a word takes.
-    pub fn asking(&self) -> f64 {
-        self.rust / (self.call - self.refused)
+    pub fn asking(&self) -> Option<f64> {
+        self.refused.map(|refused| self.rust / (self.call - refused))
     }
 }
 
-/// The word's times on the sheet. A round makes each call twice and times the second.
+/// The word's times on the sheet. A round makes each call twice and times the second; without a round there are no times.
 pub fn times(answer: &Answer, word: &str, sheet: &[u8], rounds: usize) -> Times {
     let (_, forms) = acceptance::check(word.as_bytes(), sheet).unwrap_or_else(|refusal| panic!("{word}: {refusal}"));
-    let cut = &sheet[..sheet.len().saturating_sub(1)];
+    assert!(rounds > 0, "nothing is timed in 0 rounds");
+    let cut = sheet.split_last().map(|(_, cut)| cut);
     let mut best = [f64::MAX; 4];
     answers::with_sheet(&forms, || {
         for _ in 0..rounds {
@@ -109,10 +114,12 @@ pub fn times(answer: &Answer, word: &str, sheet: &[u8], rounds: usize) -> Times 
             least(&mut best[2], || {
                 black_box(yunthirel::raw::check_sheet(black_box(sheet)));
             });
-            least(&mut best[3], || (answer.port)(black_box(word.as_bytes()), black_box(cut)));
+            if let Some(cut) = cut {
+                least(&mut best[3], || (answer.port)(black_box(word.as_bytes()), black_box(cut)));
+            }
         }
     });
-    Times { rust: best[0], call: best[1], check: best[2], refused: best[3] }
+    Times { rust: best[0], call: best[1], check: best[2], refused: cut.map(|_| best[3]) }
 }
 
 fn least(best: &mut f64, call: impl Fn()) {

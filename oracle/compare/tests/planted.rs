@@ -50,12 +50,12 @@ fn other(code: u64, from: u8, to: u8) -> u64 {
 
 #[test]
 fn wrong_codes() {
-    let plants: [(&str, Functions); 10] = [
-        ("check_word", Functions { check_word: |word| other(raw::check_word(word), 3, 2), ..LIBRARY }),
-        ("check_sheet", Functions { check_sheet: |sheet| other(raw::check_sheet(sheet), 6, 5), ..LIBRARY }),
+    let plants: [(&[&str], Functions); 12] = [
+        (&["check_word"], Functions { check_word: |word| other(raw::check_word(word), 3, 2), ..LIBRARY }),
+        (&["check_sheet"], Functions { check_sheet: |sheet| other(raw::check_sheet(sheet), 6, 5), ..LIBRARY }),
         // The place of the line after the faulty one.
         (
-            "check_sheet",
+            &["check_sheet"],
             Functions {
                 check_sheet: |sheet| match raw::check_sheet(sheet) {
                     code if raw::number(code) == 5 => code + 16,
@@ -65,19 +65,22 @@ fn wrong_codes() {
             },
         ),
         (
-            "has_analysis",
+            &["has_analysis"],
             Functions { has_analysis: |word, sheet| other(raw::has_analysis(word, sheet), 7, 15), ..LIBRARY },
         ),
         (
-            "has_progressive",
+            &["has_progressive"],
             Functions { has_progressive: |word, sheet| other(raw::has_progressive(word, sheet), 15, 0), ..LIBRARY },
         ),
         // The other sign, the lemma a byte on, and no form.
-        ("progressive", Functions { progressive: |word, sheet| form(word, sheet, |code| code ^ 16), ..LIBRARY }),
-        ("progressive", Functions { progressive: |word, sheet| form(word, sheet, |code| code + (1 << 21)), ..LIBRARY }),
-        ("progressive", Functions { progressive: |word, sheet| form(word, sheet, |_| 0), ..LIBRARY }),
+        (&["progressive"], Functions { progressive: |word, sheet| form(word, sheet, |code| code ^ 16), ..LIBRARY }),
         (
-            "origin",
+            &["progressive"],
+            Functions { progressive: |word, sheet| form(word, sheet, |code| code + (1 << 21)), ..LIBRARY },
+        ),
+        (&["progressive"], Functions { progressive: |word, sheet| form(word, sheet, |_| 0), ..LIBRARY }),
+        (
+            &["origin"],
             Functions {
                 origin: |word, sheet| match raw::origin(word, sheet) {
                     code if raw::number(code) == 0 => code ^ 64,
@@ -86,9 +89,20 @@ fn wrong_codes() {
                 ..LIBRARY
             },
         ),
+        // Another origin, of which the source is as it was.
+        (
+            &["origin", "classify"],
+            Functions {
+                origin: |word, sheet| match raw::origin(word, sheet) {
+                    code if raw::number(code) == 0 => code ^ 16,
+                    code => code,
+                },
+                ..LIBRARY
+            },
+        ),
         // The next number up from 0.90.
         (
-            "origin",
+            &["origin"],
             Functions {
                 confidence: |word, sheet| match raw::confidence(word, sheet) {
                     0.90 => f32::from_bits(0.90_f32.to_bits() + 1),
@@ -97,9 +111,20 @@ fn wrong_codes() {
                 ..LIBRARY
             },
         ),
+        // The sign alone, which no comparison of numbers sees in 0.0.
+        (
+            &["origin"],
+            Functions {
+                confidence: |word, sheet| match raw::confidence(word, sheet) {
+                    0.0 => -0.0,
+                    confidence => confidence,
+                },
+                ..LIBRARY
+            },
+        ),
     ];
-    for (k, (question, functions)) in plants.into_iter().enumerate() {
-        assert_eq!(seen(functions), [question], "plant {k}");
+    for (k, (questions, functions)) in plants.into_iter().enumerate() {
+        assert_eq!(seen(functions), questions, "plant {k}");
     }
 }
 
@@ -118,6 +143,9 @@ const READINGS: &[&str] = &["readings", "best_analysis"];
 const LISTING: &[&str] = &["listing"];
 const CANDIDATES: &[&str] = &["candidates", "best_root", "has_known_root"];
 const DECOMPOSITION: &[&str] = &["decomposition"];
+
+/// The questions that see rows of candidates, not only whether there are some.
+const CANDIDATES_BUT_YES: &[&str] = &["candidates", "best_root"];
 
 fn with(questions: &[&str], fill: Fill) -> Functions {
     match questions[0] {
@@ -239,6 +267,48 @@ fn a_byte_of_the_answer_not_written() {
 }
 
 #[test]
+fn a_buffer_without_a_byte_taken_for_an_answer() {
+    fn empty(code: u64, out: &[u8]) -> u64 {
+        if out.is_empty() { other(code, 8, 0) } else { code }
+    }
+    all_see([
+        (READINGS, |word, sheet, out| empty(raw::readings(word, sheet, out), out)),
+        (LISTING, |word, sheet, out| empty(raw::listing(word, sheet, out), out)),
+        (CANDIDATES, |word, sheet, out| empty(raw::candidates(word, sheet, out), out)),
+        (DECOMPOSITION, |word, sheet, out| empty(raw::decompose(word, sheet, out), out)),
+    ]);
+}
+
+#[test]
+fn the_rows_that_fit_written_before_a_refusal() {
+    /// Writes whole rows where the buffer lacks half a row or more: where it ends within a row, or where it ends with one.
+    fn fitting<const ROW: usize>(ask: Fill, within: bool, word: &[u8], sheet: &[u8], out: &mut [u8]) -> u64 {
+        let code = ask(word, sheet, out);
+        let mut all = [0; raw::READINGS_ROOM];
+        let size = ROW * raw::above(ask(word, sheet, &mut all));
+        if code == 8 && out.len() >= ROW && out.len() + ROW / 2 <= size && out.len().is_multiple_of(ROW) != within {
+            let whole = out.len() - out.len() % ROW;
+            out[..whole].copy_from_slice(&all[..whole]);
+        }
+        code
+    }
+    for readings in [
+        |word, sheet, out| fitting::<18>(raw::readings, false, word, sheet, out),
+        |word, sheet, out| fitting::<18>(raw::readings, true, word, sheet, out),
+    ] as [Fill; 2]
+    {
+        assert_eq!(seen(with(READINGS, readings)), READINGS);
+    }
+    for candidates in [
+        |word, sheet, out| fitting::<33>(raw::candidates, false, word, sheet, out),
+        |word, sheet, out| fitting::<33>(raw::candidates, true, word, sheet, out),
+    ] as [Fill; 2]
+    {
+        assert_eq!(seen(with(CANDIDATES, candidates)), CANDIDATES);
+    }
+}
+
+#[test]
 fn one_row_for_another() {
     /// The last two rows in each other's place: their scores alone may be the same.
     fn swapped<const ROW: usize>(code: u64, out: &mut [u8]) -> u64 {
@@ -281,4 +351,97 @@ fn a_row_of_the_same_label() {
         other_form(code, std::iter::once(2), out)
     };
     assert_eq!(seen(with(DECOMPOSITION, decompose)), DECOMPOSITION);
+}
+
+/// Changes the rows of an answer, `ROW` bytes each.
+fn rows_changed<const ROW: usize>(code: u64, count: usize, out: &mut [u8], change: fn(&mut [u8; ROW])) -> u64 {
+    if raw::number(code) == 0 {
+        let (rows, _) = out.as_chunks_mut::<ROW>();
+        rows[..count].iter_mut().for_each(change);
+    }
+    code
+}
+
+fn readings_changed(word: &[u8], sheet: &[u8], out: &mut [u8], change: fn(&mut [u8; 18])) -> u64 {
+    let code = raw::readings(word, sheet, out);
+    rows_changed(code, raw::above(code), out, change)
+}
+
+fn candidates_changed(word: &[u8], sheet: &[u8], out: &mut [u8], change: fn(&mut [u8; 33])) -> u64 {
+    let code = raw::candidates(word, sheet, out);
+    rows_changed(code, raw::above(code), out, change)
+}
+
+fn decomposition_changed(word: &[u8], sheet: &[u8], out: &mut [u8], change: fn(&mut [u8; 33])) -> u64 {
+    let code = raw::decompose(word, sheet, out);
+    rows_changed(code, 1, out, change)
+}
+
+/// A byte of a row as another number.
+fn byte(byte: &mut u8, from: u8, to: u8) {
+    if *byte == from {
+        *byte = to;
+    }
+}
+
+#[test]
+fn a_wrong_kind() {
+    // A case marker as a particle, a postposition as a comparison marker, each nearest the stem.
+    let plants: [Fill; 2] = [
+        |word, sheet, out| readings_changed(word, sheet, out, |row| byte(&mut row[9], 1, 0)),
+        |word, sheet, out| readings_changed(word, sheet, out, |row| byte(&mut row[9], 3, 4)),
+    ];
+    for plant in plants {
+        assert_eq!(seen(with(READINGS, plant)), READINGS);
+    }
+}
+
+#[test]
+fn a_wrong_suffix_row() {
+    // को as मा nearest the stem, क्यारे as पनि furthest from it.
+    let readings: [Fill; 2] = [
+        |word, sheet, out| readings_changed(word, sheet, out, |row| byte(&mut row[8], 16, 17)),
+        |word, sheet, out| readings_changed(word, sheet, out, |row| byte(&mut row[14], 18, 19)),
+    ];
+    for plant in readings {
+        assert_eq!(seen(with(READINGS, plant)), READINGS);
+    }
+    // ई as ी, which no candidate and no decomposition is labelled with.
+    let candidates: Fill = |word, sheet, out| candidates_changed(word, sheet, out, |row| byte(&mut row[9], 22, 23));
+    assert_eq!(seen(with(CANDIDATES, candidates)), CANDIDATES_BUT_YES);
+    let decompose: Fill = |word, sheet, out| decomposition_changed(word, sheet, out, |row| byte(&mut row[9], 22, 23));
+    assert_eq!(seen(with(DECOMPOSITION, decompose)), DECOMPOSITION);
+}
+
+#[test]
+fn a_wrong_score() {
+    // One more, and 256 less.
+    let readings: [Fill; 2] = [
+        |word, sheet, out| readings_changed(word, sheet, out, |row| row[4] ^= 1),
+        |word, sheet, out| readings_changed(word, sheet, out, |row| row[5] = 0),
+    ];
+    for plant in readings {
+        assert_eq!(seen(with(READINGS, plant)), READINGS);
+    }
+    let candidates: [Fill; 2] = [
+        |word, sheet, out| candidates_changed(word, sheet, out, |row| row[7] ^= 1),
+        |word, sheet, out| candidates_changed(word, sheet, out, |row| row[8] = 0),
+    ];
+    for plant in candidates {
+        assert_eq!(seen(with(CANDIDATES, plant)), CANDIDATES_BUT_YES);
+    }
+}
+
+#[test]
+fn a_wrong_letter() {
+    // w for h, h for w, and one of the two left out.
+    let plants: [Fill; 4] = [
+        |word, sheet, out| candidates_changed(word, sheet, out, |row| byte(&mut row[6], 2, 1)),
+        |word, sheet, out| candidates_changed(word, sheet, out, |row| byte(&mut row[6], 1, 2)),
+        |word, sheet, out| candidates_changed(word, sheet, out, |row| byte(&mut row[6], 3, 1)),
+        |word, sheet, out| candidates_changed(word, sheet, out, |row| byte(&mut row[6], 3, 2)),
+    ];
+    for plant in plants {
+        assert_eq!(seen(with(CANDIDATES, plant)), CANDIDATES_BUT_YES);
+    }
 }

@@ -4,7 +4,7 @@
 //!     bench [--words FILE]... [--sample N] [--rounds N]
 //!
 //! A file is a hunspell dictionary or any list of words, one a line; of each, N words are taken, evenly spread. Without a file the
-//! words of `words.rs` are.
+//! words of `words.rs` are. A dash stands where a sheet is empty, so that no call is refused at its last line.
 
 use compare::files::{Fill, Words};
 use compare::timing::{Answer, OTHERS, READINGS, Times, times};
@@ -18,6 +18,11 @@ const SEED: u64 = 1;
 
 fn main() {
     let ([sample, rounds], files) = options::read("bench", [("--sample", 200), ("--rounds", 60)]);
+    for (name, number) in [("--sample", sample), ("--rounds", rounds)] {
+        if number == 0 {
+            options::refuse("bench", &format!("{name} wants 1 or more"));
+        }
+    }
     let (sample, rounds) = (sample as usize, rounds as usize);
     checks(rounds);
     head("running text");
@@ -26,6 +31,9 @@ fn main() {
     for path in &files {
         let list = std::fs::read_to_string(path).unwrap_or_else(|error| panic!("{path}: {error}"));
         let all = dictionary(&list);
+        if all.is_empty() {
+            options::refuse("bench", &format!("{path} has no word that is accepted"));
+        }
         let words: Vec<&str> = all.iter().copied().step_by((all.len() / sample).max(1)).collect();
         let lexicon = Words::of(bytes(&all), SEED);
         head(&format!("{} of the {} words of {path}", words.len(), all.len()));
@@ -64,20 +72,24 @@ fn head(name: &str) {
 fn show(name: &str, times: Times, count: usize) {
     let each = |sum: f64| sum / count as f64;
     println!(
-        "{name:>30} {:9.2} {:9.2} {:9.2} {:9.2} {:10.1} {:12.1} {:9.2}",
+        "{name:>30} {:9.2} {:9.2} {:9.2} {:>9} {:10.1} {:>12} {:9.2}",
         each(times.rust),
         each(times.call),
         each(times.check),
-        each(times.refused),
+        or_dash(times.refused.map(each), 2),
         times.ratio(),
-        times.asking(),
+        or_dash(times.asking(), 1),
         times.call / times.check
     );
 }
 
+fn or_dash(number: Option<f64>, places: usize) -> String {
+    number.map_or("-".to_string(), |number| format!("{number:.places$}"))
+}
+
 /// One row: the sums over words, each with its sheet. All answers of the two sides are the same before any is timed.
 fn row(name: &str, answer: &Answer, words: &[&str], sheet_of: impl Fn(&str) -> Vec<u8>, rounds: usize) {
-    let mut sum = Times::default();
+    let mut sum = Times::ZERO;
     for word in words {
         let sheet = sheet_of(word);
         let case = blocks::Case { word: word.as_bytes().to_vec(), sheet };
