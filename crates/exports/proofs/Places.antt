@@ -32,13 +32,13 @@ use Rattle.roots.specs.declared.RootCandidate.{RootCandidate}
 abbrev pub Full : Parts → Type 0
 Full p = length (p .suffixes) ≡ 24
 
-abbrev FullParts : List Parts → Type 0
-FullParts [] = Unit {0}
-FullParts (p ∷ ps) = Full p × FullParts ps
+abbrev pub FullRow : RootCandidate → Type 0
+FullRow c = Full (c .parts)
 
-abbrev pub FullRows : List RootCandidate → Type 0
-FullRows [] = Unit {0}
-FullRows (c ∷ cs) = Full (c .parts) × FullRows cs
+-- each element is so
+abbrev pub Every : {A : Type 0} → (A → Type 0) → List A → Type 0
+Every P [] = Unit {0}
+Every P (x ∷ xs) = P x × Every P xs
 
 filled-long : (n : ℕ) (xs : List ℕ) → length (filled n xs) ≡ n
 filled-long zero xs = refl
@@ -65,20 +65,20 @@ answer-full w s = by (inputsOf w s)
 
 -- What is offered.
 
-full-append : (ps qs : List Parts) → FullParts ps → FullParts qs → FullParts (ps ++ qs)
+full-append : (ps qs : List Parts) → Every Full ps → Every Full qs → Every Full (ps ++ qs)
 full-append [] qs h k = k
 full-append (p ∷ ps) qs h k = (h .0, full-append ps qs (h .1) k)
 
-among-full : (least : ℕ) (f : Front) (labels : List ℕ) (rs : List (List ℕ)) → FullParts (partsAmong least f labels rs)
+among-full : (least : ℕ) (f : Front) (labels : List ℕ) (rs : List (List ℕ)) → Every Full (partsAmong least f labels rs)
 among-full least f labels [] = tt
 among-full least f labels (r ∷ rs) = by (leb least (chars r)) (among-full least f labels rs)
   where
-    by : (b : Bool) → FullParts (partsAmong least f labels rs) → FullParts (pick b (partsOf f r labels ∷ []) [] ++ partsAmong least f labels rs)
+    by : (b : Bool) → Every Full (partsAmong least f labels rs) → Every Full (pick b (partsOf f r labels ∷ []) [] ++ partsAmong least f labels rs)
     by true h = (parts-full f r labels, h)
     by false h = h
 
 module _ (ask : Ask) where
-  rows-full : (f : Front) (piece : List ℕ) (k : ℕ) (rows : List (List ℕ)) → FullParts (underRows ask f piece k rows)
+  rows-full : (f : Front) (piece : List ℕ) (k : ℕ) (rows : List (List ℕ)) → Every Full (underRows ask f piece k rows)
   unfolding underRow
   rows-full f piece k [] = tt
   rows-full f piece k (suffix ∷ rows) =
@@ -87,26 +87,26 @@ module _ (ask : Ask) where
       (rows-full f piece (suc k) rows)
 
   module _ (w : List ℕ) where
-    suffix-full : (f : Front) → FullParts (oneSuffix ask w f)
+    suffix-full : (f : Front) → Every Full (oneSuffix ask w f)
     unfolding oneSuffix
     suffix-full f = rows-full f (drop (f .from) w) 0 suffixes
 
     bare-full : (f : Front) → Full (bare w f)
     bare-full f = parts-full f (drop (f .from) w) []
 
-    form-full : (k : ℕ) (form : List ℕ) → FullParts (underForm ask w k form)
+    form-full : (k : ℕ) (form : List ℕ) → Every Full (underForm ask w k form)
     unfolding underForm
     form-full k form = by (leaves w form)
       where
-        by : (b : Bool) → FullParts (pick b (bare w (frontAt k (length form)) ∷ oneSuffix ask w (frontAt k (length form))) [])
+        by : (b : Bool) → Every Full (pick b (bare w (frontAt k (length form)) ∷ oneSuffix ask w (frontAt k (length form))) [])
         by true = (bare-full (frontAt k (length form)), suffix-full (frontAt k (length form)))
         by false = tt
 
-    forms-full : (k : ℕ) (forms : List (List ℕ)) → FullParts (underForms ask w k forms)
+    forms-full : (k : ℕ) (forms : List (List ℕ)) → Every Full (underForms ask w k forms)
     forms-full k [] = tt
     forms-full k (form ∷ forms) = full-append (underForm ask w k form) (underForms ask w (suc k) forms) (form-full k form) (forms-full (suc k) forms)
 
-    offers-full : FullParts (offers ask w)
+    offers-full : Every Full (offers ask w)
     unfolding offers
     offers-full =
         let rest = full-append (oneSuffix ask w noFront) (underForms ask w 0 prefixForms) (suffix-full noFront) (forms-full 0 prefixForms) in
@@ -114,16 +114,16 @@ module _ (ask : Ask) where
 
     -- What is kept of it.
 
-    ranked-full : (r : RootCandidate) (xs : List RootCandidate) → Full (r .parts) → FullRows xs → FullRows (ranked w r xs)
+    ranked-full : (r : RootCandidate) (xs : List RootCandidate) → Full (r .parts) → Every FullRow xs → Every FullRow (ranked w r xs)
     unfolding ranked
     ranked-full r [] h k = (h, tt)
     ranked-full r (x ∷ xs) h k = by (aheadOf w r x) (ranked-full r xs h (k .1))
       where
-        by : (b : Bool) → FullRows (ranked w r xs) → FullRows (pick b (r ∷ x ∷ xs) (x ∷ ranked w r xs))
+        by : (b : Bool) → Every FullRow (ranked w r xs) → Every FullRow (pick b (r ∷ x ∷ xs) (x ∷ ranked w r xs))
         by true m = (h, k)
         by false m = (k .0, m)
 
-    kept-full : (xs : List RootCandidate) (p : Parts) → Full p → FullRows xs → FullRows (keptOf ask w xs p)
+    kept-full : (xs : List RootCandidate) (p : Parts) → Full p → Every FullRow xs → Every FullRow (keptOf ask w xs p)
     unfolding keptOf once candidateBy
     kept-full xs p h k =
         by (isKnown l) (holdsIn w p xs) (ranked-full (candidateBy ask w p l) xs h k)
@@ -131,25 +131,25 @@ module _ (ask : Ask) where
         l : Letters
         l = lettersBy ask (rootText w p)
 
-        by : (a b : Bool) → FullRows (ranked w (candidateBy ask w p l) xs) → FullRows (pick a (pick b xs (ranked w (candidateBy ask w p l) xs)) xs)
+        by : (a b : Bool) → Every FullRow (ranked w (candidateBy ask w p l) xs) → Every FullRow (pick a (pick b xs (ranked w (candidateBy ask w p l) xs)) xs)
         by true true m = k
         by true false m = m
         by false b m = k
 
-    all-full : (xs : List RootCandidate) (ps : List Parts) → FullRows xs → FullParts ps → FullRows (keptAll ask w xs ps)
+    all-full : (xs : List RootCandidate) (ps : List Parts) → Every FullRow xs → Every Full ps → Every FullRow (keptAll ask w xs ps)
     unfolding keptAll
     all-full xs [] h k = h
     all-full xs (p ∷ ps) h k = all-full (keptOf ask w xs p) ps (kept-full xs p (k .0) h) (k .1)
 
-    candidates-full : FullRows (candidates ask w)
+    candidates-full : Every FullRow (candidates ask w)
     unfolding candidates
     candidates-full = all-full [] (offers ask w) tt offers-full
 
 -- the candidates of every word and sheet
-pub roots-full : (w s : List ℕ) → FullRows (rootsFor w s)
+pub roots-full : (w s : List ℕ) → Every FullRow (rootsFor w s)
 unfolding rootsFor
 roots-full w s = by (inputsOf w s)
   where
-    by : (i : Inputs) → FullRows (rootsIf i w s)
+    by : (i : Inputs) → Every FullRow (rootsIf i w s)
     by inputs.Accepted = candidates-full (reply s) w
     by (inputs.Refused r) = tt

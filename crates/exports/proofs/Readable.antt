@@ -55,7 +55,7 @@ use Rattle.exports.proofs.Bounds.{SmallForm, answer-small}
 use Rattle.exports.proofs.Widths.{rows-long}
 use Rattle.exports.proofs.Put.{both, stored-long, answer-inputs}
 use Rattle.exports.proofs.Enough.{two-prefixes, four-segments, given-paths}
-use Rattle.exports.proofs.Places.{Full, FullRows, answer-full, roots-full}
+use Rattle.exports.proofs.Places.{Full, FullRow, Every, answer-full, roots-full}
 
 -- a refusal's number, and the first byte of the faulty line, 0 where no line is at fault
 pub refusal-read : (r : Refusal) → (numberOf (refusalCode r) ≡ getD (numbersOf r) 0 0) × (startOf (refusalCode r) ≡ getD (numbersOf r) 1 0)
@@ -208,42 +208,35 @@ reading-read r rest p s =
 
 -- Rows of one width, of elements that their rows give back.
 
-module _ {A : Type 0} (width : ℕ) (bytes : A → List ℕ) (back : List ℕ → A) (d : A) (Whole : A → Type 0) where
-  abbrev AllWhole : List A → Type 0
-  AllWhole [] = Unit {0}
-  AllWhole (x ∷ xs) = Whole x × AllWhole xs
-
-  module _ (wide : (x : A) → length (bytes x) ≡ width) (read : (x : A) (rest : List ℕ) → Whole x → back (bytes x ++ rest) ≡ x) where
-    -- row i of those that stand one after the other
-    rows-read : (xs : List A) (i : ℕ) (rest : List ℕ) → AllWhole xs → i < length xs → back (drop (width * i) (each bytes xs ++ rest)) ≡ getD xs i d
-    unfolding each
-    rows-read [] i rest h l = absurd (not-suc-le-zero l)
-    rows-read (x ∷ xs) zero rest h l =
-        ap (λ (n : ℕ). back (drop n ((bytes x ++ each bytes xs) ++ rest))) (mul-zero width)
-        ∙ ap back (append-assoc (bytes x) (each bytes xs) rest)
-        ∙ read x (each bytes xs ++ rest) (h .0)
-    rows-read (x ∷ xs) (suc i) rest h l =
-        let m = mul-suc width i in
-        let n = wide x in
-        let k : width * suc i ≡ length (bytes x) + width * i = omega arith in
-        ap (λ (ys : List ℕ). back (drop (width * suc i) ys)) (append-assoc (bytes x) (each bytes xs) rest)
-        ∙ ap (λ (n : ℕ). back (drop n (bytes x ++ (each bytes xs ++ rest)))) k
-        ∙ ap back (drop-append-add (bytes x) (each bytes xs ++ rest) (width * i))
-        ∙ rows-read xs i rest (h .1) (le-of-suc-le-suc l)
+module _ {A : Type 0} (width : ℕ) (bytes : A → List ℕ) (back : List ℕ → A) (d : A) (Whole : A → Type 0) (wide : (x : A) → length (bytes x) ≡ width)
+    (read : (x : A) (rest : List ℕ) → Whole x → back (bytes x ++ rest) ≡ x) where
+  -- row i of those that stand one after the other
+  rows-read : (xs : List A) (i : ℕ) (rest : List ℕ) → Every Whole xs → i < length xs → back (drop (width * i) (each bytes xs ++ rest)) ≡ getD xs i d
+  unfolding each
+  rows-read [] i rest h l = absurd (not-suc-le-zero l)
+  rows-read (x ∷ xs) zero rest h l =
+      ap (λ (n : ℕ). back (drop n ((bytes x ++ each bytes xs) ++ rest))) (mul-zero width)
+      ∙ ap back (append-assoc (bytes x) (each bytes xs) rest)
+      ∙ read x (each bytes xs ++ rest) (h .0)
+  rows-read (x ∷ xs) (suc i) rest h l =
+      let m = mul-suc width i in
+      let n = wide x in
+      let k : width * suc i ≡ length (bytes x) + width * i = omega arith in
+      ap (λ (ys : List ℕ). back (drop (width * suc i) ys)) (append-assoc (bytes x) (each bytes xs) rest)
+      ∙ ap (λ (n : ℕ). back (drop n (bytes x ++ (each bytes xs ++ rest)))) k
+      ∙ ap back (drop-append-add (bytes x) (each bytes xs ++ rest) (width * i))
+      ∙ rows-read xs i rest (h .1) (le-of-suc-le-suc l)
 
 -- two places for prefixes and four for segments
 abbrev Shaped : Reading → Type 0
 Shaped r = (length (r .prefixes) ≡ 2) × (length (r .segments) ≡ 4)
 
-abbrev AllShaped : List Reading → Type 0
-AllShaped = AllWhole 18 readingBytes readingAt noReading Shaped
-
-given-shaped : (w s : List ℕ) → saidOf w s ≡ said.Listed → AllShaped (rowsGiven w s)
+given-shaped : (w s : List ℕ) → saidOf w s ≡ said.Listed → Every Shaped (rowsGiven w s)
 given-shaped w s e =
     let l = given-paths w s e .1 in
-    subst AllShaped (l .rows-are) (by (l .paths))
+    subst (Every Shaped) (l .rows-are) (by (l .paths))
   where
-    by : (ps : List Route) → AllShaped (map (readingOf (reply s) w) ps)
+    by : (ps : List Route) → Every Shaped (map (readingOf (reply s) w) ps)
     by [] = tt
     by (p ∷ ps) = ((two-prefixes (reply s) w p, four-segments (reply s) w p), by ps)
 
@@ -310,7 +303,7 @@ morpheme-is : (m : Morpheme) {p : Parts} {o : Origin} → p ≡ m .parts → o �
 morpheme-is m e f = rw (e, f)
 
 -- at the front of any bytes a candidate's row gives the candidate back
-pub candidate-read : (c : RootCandidate) (rest : List ℕ) → Full (c .parts) → candidateAt (candidateBytes c ++ rest) ≡ c
+pub candidate-read : (c : RootCandidate) (rest : List ℕ) → FullRow c → candidateAt (candidateBytes c ++ rest) ≡ c
 candidate-read c rest h =
     let k = known-back (c .«known_word») (c .«known_headword») in
     let p = parts-back (c .parts) (originNumber (c .origin)) (bit (c .«known_word») + 2 * bit (c .«known_headword»)) (c .score % 256) (c .score / 256) rest h in
@@ -329,12 +322,8 @@ candidates-read w s out e h i l =
     let b : each candidateBytes (rootsFor w s) ++ drop (33 * length (rootsFor w s)) out ≡ candidatesIf (inputsOf w s) (rootsFor w s) out .buffer =
     both f (rows-long candidateBytes 33 (length (rootsFor w s)) (rootsFor w s) out refl _ h refl) .1 in
     ap (λ (xs : List ℕ). candidateAt (drop (33 * i) xs)) (sym b)
-    ∙ rows-read 33 candidateBytes candidateAt noCandidate (λ (c : RootCandidate). Full (c .parts)) (λ c. refl) candidate-read
-    (rootsFor w s) i (drop (33 * length (rootsFor w s)) out) (whole (rootsFor w s) (roots-full w s)) l
-  where
-    whole : (cs : List RootCandidate) → FullRows cs → AllWhole 33 candidateBytes candidateAt noCandidate (λ (c : RootCandidate). Full (c .parts)) cs
-    whole [] h = tt
-    whole (c ∷ cs) h = (h .0, whole cs (h .1))
+    ∙ rows-read 33 candidateBytes candidateAt noCandidate FullRow (λ c. refl) candidate-read
+    (rootsFor w s) i (drop (33 * length (rootsFor w s)) out) (roots-full w s) l
 
 -- the decomposition of an accepted word and sheet is read back from a buffer that is long enough
 pub decomposition-read : (w s out : List ℕ) → inputsOf w s ≡ inputs.Accepted → 33 ≤ length out

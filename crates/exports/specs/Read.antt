@@ -73,11 +73,11 @@ readingAt bytes = record {
 abbrev pub originAt : ℕ → Origin
 originAt n = getD (Tatsam ∷ Tadbhav ∷ Deshaj ∷ Aagantuk ∷ []) n Tatsam
 
--- a bit of a byte, told by its power of 2
+-- whether a byte has the bit that this power of 2 stands for
 abbrev pub hasBit : ℕ → ℕ → Bool
 hasBit power byte = ltb 0 (byte / power % 2)
 
--- the parts whose row stands at the front: five bytes, and 24 places for suffix rows from the ninth on
+-- the parts whose row stands at the front: five bytes, and the 24 places for suffix rows from byte 9 on
 abbrev pub partsAt : List ℕ → Parts
 partsAt bytes = record {
   start = getD bytes 0 0;
