@@ -2,4 +2,5 @@ pub mod Bounds
 pub mod Put
 pub mod Widths
 pub mod Enough
+pub mod Places
 pub mod Readable

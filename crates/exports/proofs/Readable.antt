@@ -1,13 +1,13 @@
--- What the static library's functions give can be read back as the C header does (specs/Read): the parts of a code, and the row of a
--- reading. Assumes nothing.
+-- What the static library's functions give can be read back as the C header does (specs/Read): the parts of a code, and the rows of
+-- readings, candidates and decompositions. Assumes nothing.
 use Prim.Native.Nat.{ℕ, zero, suc, _+_, _*_, _/_, _%_, _≤_, _<_}
 use native.Mathlib.Omega.{arith}
-use native.Mathlib.Nat.{not-suc-le-zero, le-of-suc-le-suc}
+use native.Mathlib.Nat.{mul-suc, mul-zero, not-suc-le-zero, le-of-suc-le-suc}
 use mathlib.Core.Path.{_≡_, refl, sym, ap, subst, _∙_}
 use mathlib.Core.Bool.{Bool, true, false}
 use mathlib.Core.List.{List, [], _∷_, _++_, map, append-assoc}
-use lib.ListN.{length, drop, getD}
-use lib.Seq.{drop-append-add}
+use lib.ListN.{length, take, drop, getD}
+use lib.Seq.{take-at, drop-append-add}
 use Rattle.text.specs.Word.{wordLimit}
 use Rattle.tables.specs.declared.origins.Origin.{Origin}
 use Rattle.tables.specs.declared.origins.Origin.the-variants.{Tatsam, Tadbhav, Deshaj, Aagantuk}
@@ -40,13 +40,22 @@ use Rattle.origin.specs.declared.OriginSource.{OriginSource}
 use Rattle.origin.specs.declared.OriginSource.the-variants.{Override, Kosha, Heuristic, Unknown}
 use Rattle.origin.specs.declared.OriginDecision.{OriginDecision}
 use Rattle.origin.specs.declared.entries.DecisionAnswer.the-variants as decisions
+use Rattle.decomposition.specs.Answers.{morphemeAnswer}
+use Rattle.decomposition.specs.declared.Parts.{Parts}
+use Rattle.decomposition.specs.declared.Morpheme.{Morpheme}
+use Rattle.decomposition.specs.declared.entries.MorphemeAnswer.{MorphemeAnswer}
+use Rattle.roots.specs.Lists.{noCandidate}
+use Rattle.roots.specs.Answers.{rootsFor}
+use Rattle.roots.specs.declared.RootCandidate.{RootCandidate}
 use Rattle.exports.specs.Codes.{bit, sheetCode, refusalCode, formCode, progressiveCode, originNumber, sourceNumber, originCode}
-use Rattle.exports.specs.Read.{numberOf, startOf, countOf, negativeOf, mainEndOf, lemmaLenOf, lemmaAtOf, originOf, sourceOf, kindAt, readingAt}
-use Rattle.exports.specs.Rows.{Filled, each, rowsFilled, kindNumber, noSegment, readingBytes, readingsIf, readingsFilled}
+use Rattle.exports.specs.Read.{numberOf, startOf, countOf, negativeOf, mainEndOf, lemmaLenOf, lemmaAtOf, originOf, sourceOf, kindAt, readingAt, originAt, hasBit, partsAt, candidateAt, decompositionAt}
+use Rattle.exports.specs.Rows.{Filled, each, rowsFilled, cells, kindNumber, noSegment, readingBytes, readingsIf, readingsFilled}
+use Rattle.exports.specs.Filled.{partsBytes, morphemeBytes, candidateBytes, stored, decomposeIf, decomposeFilled, candidatesIf, candidatesFilled}
 use Rattle.exports.proofs.Bounds.{SmallForm, answer-small}
 use Rattle.exports.proofs.Widths.{rows-long}
-use Rattle.exports.proofs.Put.{both}
+use Rattle.exports.proofs.Put.{both, stored-long, answer-inputs}
 use Rattle.exports.proofs.Enough.{two-prefixes, four-segments, given-paths}
+use Rattle.exports.proofs.Places.{Full, FullRow, Every, answer-full, roots-full}
 
 -- a refusal's number, and the first byte of the faulty line, 0 where no line is at fault
 pub refusal-read : (r : Refusal) → (numberOf (refusalCode r) ≡ getD (numbersOf r) 0 0) × (startOf (refusalCode r) ≡ getD (numbersOf r) 1 0)
@@ -197,32 +206,39 @@ pub reading-read : (r : Reading) (rest : List ℕ) → length (r .prefixes) ≡ 
 reading-read r rest p s =
     reading-is r (two-read (r .stem)) (two-read (r .root)) (two-read (r .score)) (pair-read (r .prefixes) p) (four-read (r .segments) s)
 
--- the places of each row
-abbrev Shaped : List Reading → Type 0
-Shaped [] = Unit {0}
-Shaped (r ∷ rs) = (length (r .prefixes) ≡ 2) × (length (r .segments) ≡ 4) × Shaped rs
+-- Rows of one width, of elements that their rows give back.
 
--- row i of those that stand one after the other
-rows-read : (rs : List Reading) (i : ℕ) (rest : List ℕ) → Shaped rs → i < length rs → readingAt (drop (18 * i) (each readingBytes rs ++ rest)) ≡ getD rs i noReading
-unfolding each
-rows-read [] i rest h l = absurd (not-suc-le-zero l)
-rows-read (r ∷ rs) zero rest h l =
-    ap readingAt (append-assoc (readingBytes r) (each readingBytes rs) rest) ∙ reading-read r (each readingBytes rs ++ rest) (h .0) (h .1)
-rows-read (r ∷ rs) (suc i) rest h l =
-    let k : 18 * suc i ≡ 18 + 18 * i = omega arith in
-    ap (λ (xs : List ℕ). readingAt (drop (18 * suc i) xs)) (append-assoc (readingBytes r) (each readingBytes rs) rest)
-    ∙ ap (λ (n : ℕ). readingAt (drop n (readingBytes r ++ (each readingBytes rs ++ rest)))) k
-    ∙ ap readingAt (drop-append-add (readingBytes r) (each readingBytes rs ++ rest) (18 * i))
-    ∙ rows-read rs i rest (h .2) (le-of-suc-le-suc l)
+module _ {A : Type 0} (width : ℕ) (bytes : A → List ℕ) (back : List ℕ → A) (d : A) (Whole : A → Type 0) (wide : (x : A) → length (bytes x) ≡ width)
+    (read : (x : A) (rest : List ℕ) → Whole x → back (bytes x ++ rest) ≡ x) where
+  -- row i of those that stand one after the other
+  rows-read : (xs : List A) (i : ℕ) (rest : List ℕ) → Every Whole xs → i < length xs → back (drop (width * i) (each bytes xs ++ rest)) ≡ getD xs i d
+  unfolding each
+  rows-read [] i rest h l = absurd (not-suc-le-zero l)
+  rows-read (x ∷ xs) zero rest h l =
+      ap (λ (n : ℕ). back (drop n ((bytes x ++ each bytes xs) ++ rest))) (mul-zero width)
+      ∙ ap back (append-assoc (bytes x) (each bytes xs) rest)
+      ∙ read x (each bytes xs ++ rest) (h .0)
+  rows-read (x ∷ xs) (suc i) rest h l =
+      let m = mul-suc width i in
+      let n = wide x in
+      let k : width * suc i ≡ length (bytes x) + width * i = omega arith in
+      ap (λ (ys : List ℕ). back (drop (width * suc i) ys)) (append-assoc (bytes x) (each bytes xs) rest)
+      ∙ ap (λ (n : ℕ). back (drop n (bytes x ++ (each bytes xs ++ rest)))) k
+      ∙ ap back (drop-append-add (bytes x) (each bytes xs ++ rest) (width * i))
+      ∙ rows-read xs i rest (h .1) (le-of-suc-le-suc l)
 
-given-shaped : (w s : List ℕ) → saidOf w s ≡ said.Listed → Shaped (rowsGiven w s)
+-- two places for prefixes and four for segments
+abbrev Shaped : Reading → Type 0
+Shaped r = (length (r .prefixes) ≡ 2) × (length (r .segments) ≡ 4)
+
+given-shaped : (w s : List ℕ) → saidOf w s ≡ said.Listed → Every Shaped (rowsGiven w s)
 given-shaped w s e =
     let l = given-paths w s e .1 in
-    subst Shaped (l .rows-are) (by (l .paths))
+    subst (Every Shaped) (l .rows-are) (by (l .paths))
   where
-    by : (ps : List Route) → Shaped (map (readingOf (reply s) w) ps)
+    by : (ps : List Route) → Every Shaped (map (readingOf (reply s) w) ps)
     by [] = tt
-    by (p ∷ ps) = (two-prefixes (reply s) w p, four-segments (reply s) w p, by ps)
+    by (p ∷ ps) = ((two-prefixes (reply s) w p, four-segments (reply s) w p), by ps)
 
 -- each reading of a list that is given and fits in is read back from its row in the buffer
 pub readings-read : (w s out : List ℕ) → saidOf w s ≡ said.Listed → 18 * length (rowsGiven w s) ≤ length out → (i : ℕ) → i < length (rowsGiven w s)
@@ -233,4 +249,89 @@ readings-read w s out e h i l =
     let b : each readingBytes (rowsGiven w s) ++ drop (18 * length (rowsGiven w s)) out ≡ readingsIf (saidOf w s) (rowsGiven w s) out .buffer =
     both f (rows-long readingBytes 18 (length (rowsGiven w s)) (rowsGiven w s) out refl _ h refl) .1 in
     ap (λ (xs : List ℕ). readingAt (drop (18 * i) xs)) (sym b)
-    ∙ rows-read (rowsGiven w s) i (drop (18 * length (rowsGiven w s)) out) (given-shaped w s e) l
+    ∙ rows-read 18 readingBytes readingAt noReading Shaped (λ r. refl) (λ r rest h. reading-read r rest (h .0) (h .1))
+    (rowsGiven w s) i (drop (18 * length (rowsGiven w s)) out) (given-shaped w s e) l
+
+-- the rows of a candidate and of a decomposition
+
+origin-back : (o : Origin) → originAt (originNumber o) ≡ o
+origin-back Tatsam = refl
+origin-back Tadbhav = refl
+origin-back Deshaj = refl
+origin-back Aagantuk = refl
+
+known-back : (a b : Bool) → (hasBit 1 (bit a + 2 * bit b) ≡ a) × (hasBit 2 (bit a + 2 * bit b) ≡ b)
+known-back true true = (refl, refl)
+known-back true false = (refl, refl)
+known-back false true = (refl, refl)
+known-back false false = (refl, refl)
+
+cells-long : (n i : ℕ) (xs : List ℕ) → length (cells n i xs) ≡ n
+cells-long zero i xs = refl
+cells-long (suc n) i xs = ap suc (cells-long n (suc i) xs)
+
+cells-behind : (n i x : ℕ) (xs : List ℕ) → cells n (suc i) (x ∷ xs) ≡ cells n i xs
+cells-behind zero i x xs = refl
+cells-behind (suc n) i x xs = ap (λ (ys : List ℕ). getD xs i 0 ∷ ys) (cells-behind n (suc i) x xs)
+
+-- a list of n numbers is its first n
+cells-all : (xs : List ℕ) → cells (length xs) 0 xs ≡ xs
+cells-all [] = refl
+cells-all (x ∷ xs) = ap (λ (ys : List ℕ). x ∷ ys) (cells-behind (length xs) 0 x xs ∙ cells-all xs)
+
+cells-back : (xs rest : List ℕ) → length xs ≡ 24 → take 24 (cells 24 0 xs ++ rest) ≡ xs
+cells-back xs rest e = take-at (cells 24 0 xs) rest 24 (cells-long 24 0 xs) ∙ ap (λ (n : ℕ). cells n 0 xs) (sym e) ∙ cells-all xs
+
+parts-is : (p : Parts) {xs : List ℕ} → xs ≡ p .suffixes → record {
+  start = p .start;
+  end = p .end;
+  prefix = p .prefix;
+  «prefix_count» = p .«prefix_count»;
+  «suffix_count» = p .«suffix_count»;
+  suffixes = xs;
+} ≡ p
+parts-is p e = rw e
+
+parts-back : (p : Parts) (a b c d : ℕ) (rest : List ℕ) → Full p → partsAt (partsBytes p a b c d ++ rest) ≡ p
+parts-back p a b c d rest h = parts-is p (cells-back (p .suffixes) rest h)
+
+candidate-is : (c : RootCandidate) {n : ℕ} {p : Parts} {o : Origin} {a b : Bool} → n ≡ c .score → p ≡ c .parts → o ≡ c .origin → a ≡ c .«known_word»
+    → b ≡ c .«known_headword» → record { score = n; parts = p; origin = o; «known_word» = a; «known_headword» = b } ≡ c
+candidate-is c e f g h k = rw (e, f, g, h, k)
+
+morpheme-is : (m : Morpheme) {p : Parts} {o : Origin} → p ≡ m .parts → o ≡ m .origin → record { parts = p; origin = o } ≡ m
+morpheme-is m e f = rw (e, f)
+
+-- at the front of any bytes a candidate's row gives the candidate back
+pub candidate-read : (c : RootCandidate) (rest : List ℕ) → FullRow c → candidateAt (candidateBytes c ++ rest) ≡ c
+candidate-read c rest h =
+    let k = known-back (c .«known_word») (c .«known_headword») in
+    let p = parts-back (c .parts) (originNumber (c .origin)) (bit (c .«known_word») + 2 * bit (c .«known_headword»)) (c .score % 256) (c .score / 256) rest h in
+    candidate-is c (two-read (c .score)) p (origin-back (c .origin)) (k .0) (k .1)
+
+-- and a decomposition's row the decomposition
+pub morpheme-read : (m : Morpheme) (rest : List ℕ) → Full (m .parts) → decompositionAt (morphemeBytes m ++ rest) ≡ m
+morpheme-read m rest h = morpheme-is m (parts-back (m .parts) (originNumber (m .origin)) 0 0 0 rest h) (origin-back (m .origin))
+
+-- each candidate of a list that fits in is read back from its row in the buffer
+pub candidates-read : (w s out : List ℕ) → inputsOf w s ≡ inputs.Accepted → 33 * length (rootsFor w s) ≤ length out → (i : ℕ) → i < length (rootsFor w s)
+    → candidateAt (drop (33 * i) (candidatesFilled w s out .buffer)) ≡ getD (rootsFor w s) i noCandidate
+unfolding candidatesFilled
+candidates-read w s out e h i l =
+    let f : rowsFilled 33 candidateBytes (rootsFor w s) out ≡ candidatesIf (inputsOf w s) (rootsFor w s) out = ap (λ (x : Inputs). candidatesIf x (rootsFor w s) out) (sym e) in
+    let b : each candidateBytes (rootsFor w s) ++ drop (33 * length (rootsFor w s)) out ≡ candidatesIf (inputsOf w s) (rootsFor w s) out .buffer =
+    both f (rows-long candidateBytes 33 (length (rootsFor w s)) (rootsFor w s) out refl _ h refl) .1 in
+    ap (λ (xs : List ℕ). candidateAt (drop (33 * i) xs)) (sym b)
+    ∙ rows-read 33 candidateBytes candidateAt noCandidate FullRow (λ c. refl) candidate-read
+    (rootsFor w s) i (drop (33 * length (rootsFor w s)) out) (roots-full w s) l
+
+-- the decomposition of an accepted word and sheet is read back from a buffer that is long enough
+pub decomposition-read : (w s out : List ℕ) → inputsOf w s ≡ inputs.Accepted → 33 ≤ length out
+    → decompositionAt (decomposeFilled w s out .buffer) ≡ morphemeAnswer w s .morpheme
+unfolding decomposeFilled
+decomposition-read w s out e h =
+    let m = morphemeAnswer w s .morpheme in
+    let i : morphemeAnswer w s .inputs ≡ inputs.Accepted = answer-inputs w s (morphemeAnswer w s) refl ∙ e in
+    let f : stored 0 (morphemeBytes m) out ≡ decomposeIf (morphemeAnswer w s .inputs) m out = ap (λ (x : Inputs). decomposeIf x m out) (sym i) in
+    let b : morphemeBytes m ++ drop 33 out ≡ decomposeIf (morphemeAnswer w s .inputs) m out .buffer = both f (stored-long 0 (morphemeBytes m) out _ h refl) .1 in
+    ap decompositionAt (sym b) ∙ morpheme-read m (drop 33 out) (answer-full w s)

@@ -1,12 +1,19 @@
 -- How a caller reads what the static library's functions give, as the C header does: shifts and masks of a code are quotients and
--- remainders by powers of 2, and a row of bytes is a reading. Assumes nothing.
+-- remainders by powers of 2, and a row of bytes is a reading, a candidate or a decomposition. Assumes nothing.
 use Prim.Native.Nat.{ℕ, _+_, _*_, _/_, _%_}
+use mathlib.Core.Bool.{Bool}
 use mathlib.Core.List.{List, [], _∷_}
-use lib.ListN.{getD}
+use lib.ListN.{take, drop, getD}
+use lib.Dec.{ltb}
+use Rattle.tables.specs.declared.origins.Origin.{Origin}
+use Rattle.tables.specs.declared.origins.Origin.the-variants.{Tatsam, Tadbhav, Deshaj, Aagantuk}
 use Rattle.ranking.specs.declared.AffixKind.{AffixKind}
 use Rattle.ranking.specs.declared.AffixKind.the-variants.{Particle, CaseMarker, PluralMarker, Postposition, ComparisonMarker}
 use Rattle.ranking.specs.declared.Segment.{Segment}
 use Rattle.ranking.specs.declared.Reading.{Reading}
+use Rattle.decomposition.specs.declared.Parts.{Parts}
+use Rattle.decomposition.specs.declared.Morpheme.{Morpheme}
+use Rattle.roots.specs.declared.RootCandidate.{RootCandidate}
 
 -- the lowest four bits: document 01's number of a refusal, or 0 or 15
 abbrev pub numberOf : ℕ → ℕ
@@ -61,3 +68,36 @@ readingAt bytes = record {
   «prefix_count» = getD bytes 16 0;
   «suffix_count» = getD bytes 17 0;
 }
+
+-- the origin of each number
+abbrev pub originAt : ℕ → Origin
+originAt n = getD (Tatsam ∷ Tadbhav ∷ Deshaj ∷ Aagantuk ∷ []) n Tatsam
+
+-- whether a byte has the bit that this power of 2 stands for
+abbrev pub hasBit : ℕ → ℕ → Bool
+hasBit power byte = ltb 0 (byte / power % 2)
+
+-- the parts whose row stands at the front: five bytes, and the 24 places for suffix rows from byte 9 on
+abbrev pub partsAt : List ℕ → Parts
+partsAt bytes = record {
+  start = getD bytes 0 0;
+  end = getD bytes 1 0;
+  prefix = getD bytes 2 0;
+  «prefix_count» = getD bytes 3 0;
+  «suffix_count» = getD bytes 4 0;
+  suffixes = take 24 (drop 9 bytes);
+}
+
+-- the candidate whose row stands at the front; bit 0 of byte 6 says known by w, bit 1 known by h
+abbrev pub candidateAt : List ℕ → RootCandidate
+candidateAt bytes = record {
+  score = twoAt bytes 7;
+  parts = partsAt bytes;
+  origin = originAt (getD bytes 5 0);
+  «known_word» = hasBit 1 (getD bytes 6 0);
+  «known_headword» = hasBit 2 (getD bytes 6 0);
+}
+
+-- the decomposition whose row stands at the front
+abbrev pub decompositionAt : List ℕ → Morpheme
+decompositionAt bytes = record { parts = partsAt bytes; origin = originAt (getD bytes 5 0) }
