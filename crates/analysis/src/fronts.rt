@@ -1,5 +1,5 @@
-// Which pieces a prefix form can begin. Every form begins with a character of three bytes; most pieces have another third byte than any
-// form, and then no row need be compared.
+// Which pieces a prefix form can begin. Every form begins with a character of three bytes; a piece with another third byte than any
+// form has no prefix, and then no row need be compared.
 ghost use mathlib.Core.Path.{_≡_};
 ghost use Rattle.analysis.specs.Fronts.{opensForm, mayBegin};
 
