@@ -25,15 +25,20 @@ static int is_text(const uint8_t *bytes, size_t from, size_t to, const char *tex
     return from <= to && to - from == strlen(text) && memcmp(bytes + from, text, to - from) == 0;
 }
 
+/* Whether a code is this number, and nothing above it. */
+static int is(struct yunthirel_code code, enum yunthirel_number number) {
+    return code.bits == (uint64_t)number && yunthirel_number_of(code) == number;
+}
+
 /* Rows past those that are always enough, so that a number which is too small in the header is seen. */
 static struct yunthirel_reading readings[2 * YUNTHIREL_READINGS];
 static struct yunthirel_root roots[2 * YUNTHIREL_CANDIDATES];
 
-static uint64_t ask_readings(const char *word, const char *sheet) {
+static struct yunthirel_code ask_readings(const char *word, const char *sheet) {
     return yunthirel_readings(SLICE(word), SLICE(sheet), (uint8_t *)readings, sizeof readings);
 }
 
-static uint64_t ask_candidates(const char *word, const char *sheet) {
+static struct yunthirel_code ask_candidates(const char *word, const char *sheet) {
     return yunthirel_candidates(SLICE(word), SLICE(sheet), (uint8_t *)roots, sizeof roots);
 }
 
@@ -82,38 +87,46 @@ static const char SIXTEEN[] = "निःघरपहाडितएको";
 static void numbers(void) {
     static uint8_t bytes[65537];
     memset(bytes, 'a', sizeof bytes);
-    CHECK(yunthirel_check_word(bytes, 192) == YUNTHIREL_ANSWERED);
-    CHECK(yunthirel_check_word(bytes, 193) == YUNTHIREL_WORD_TOO_LONG);
-    CHECK(yunthirel_check_word(SLICE("\x80")) == YUNTHIREL_WORD_NOT_UTF8);
-    CHECK(yunthirel_check_word(SLICE("(")) == YUNTHIREL_WORD_FORBIDDEN);
-    CHECK(yunthirel_check_sheet(SLICE("")) == YUNTHIREL_ANSWERED);
-    CHECK(yunthirel_check_sheet(bytes, 65537) == YUNTHIREL_SHEET_TOO_LONG);
-    CHECK(yunthirel_check_sheet(bytes, 65536) == YUNTHIREL_SHEET_NO_FORM);
+    CHECK(is(yunthirel_check_word(bytes, 192), YUNTHIREL_ANSWERED));
+    CHECK(is(yunthirel_check_word(bytes, 193), YUNTHIREL_WORD_TOO_LONG));
+    CHECK(is(yunthirel_check_word(SLICE("\x80")), YUNTHIREL_WORD_NOT_UTF8));
+    CHECK(is(yunthirel_check_word(SLICE("(")), YUNTHIREL_WORD_FORBIDDEN));
+    CHECK(is(yunthirel_check_sheet(SLICE("")), YUNTHIREL_ANSWERED));
+    CHECK(is(yunthirel_check_sheet(bytes, 65537), YUNTHIREL_SHEET_TOO_LONG));
+    CHECK(is(yunthirel_check_sheet(bytes, 65536), YUNTHIREL_SHEET_NO_FORM));
 
     /* Numbers with a place above them. */
-    uint64_t code = yunthirel_check_sheet(SLICE("(w a (w))\n\n"));
+    struct yunthirel_code code = yunthirel_check_sheet(SLICE("(w a (w))\n\n"));
     CHECK(yunthirel_number_of(code) == YUNTHIREL_SHEET_NO_FORM);
     CHECK(yunthirel_start_of(code) == 10);
     code = yunthirel_check_sheet(SLICE("(w aa (w))\n(w a (w))\n"));
     CHECK(yunthirel_number_of(code) == YUNTHIREL_SHEET_NOT_ABOVE);
     CHECK(yunthirel_start_of(code) == 11);
 
-    CHECK(ask_readings(SEVENTY_SEVEN, every_run(SEVENTY_SEVEN)) == YUNTHIREL_TOO_MANY_READINGS);
+    CHECK(is(ask_readings(SEVENTY_SEVEN, every_run(SEVENTY_SEVEN)), YUNTHIREL_TOO_MANY_READINGS));
     uint8_t out[64];
-    CHECK(yunthirel_readings(SLICE("घर"), SLICE("(w घर (w))\n"), out, 17) == YUNTHIREL_OUTPUT_TOO_SHORT);
-    CHECK(yunthirel_candidates(SLICE("घर"), SLICE("(w घर (w))\n"), out, 32) == YUNTHIREL_OUTPUT_TOO_SHORT);
-    CHECK(yunthirel_decompose(SLICE("घर"), SLICE("(w घर (w))\n"), out, 32) == YUNTHIREL_OUTPUT_TOO_SHORT);
+    CHECK(is(yunthirel_readings(SLICE("घर"), SLICE("(w घर (w))\n"), out, 17), YUNTHIREL_OUTPUT_TOO_SHORT));
+    CHECK(is(yunthirel_candidates(SLICE("घर"), SLICE("(w घर (w))\n"), out, 32), YUNTHIREL_OUTPUT_TOO_SHORT));
+    CHECK(is(yunthirel_decompose(SLICE("घर"), SLICE("(w घर (w))\n"), out, 32), YUNTHIREL_OUTPUT_TOO_SHORT));
 
-    CHECK(yunthirel_has_analysis(SLICE("घर"), SLICE("(w घर (w))\n")) == YUNTHIREL_YES);
-    CHECK(yunthirel_has_analysis(SLICE("घर"), SLICE("")) == YUNTHIREL_ANSWERED);
-    CHECK(yunthirel_has_progressive(SLICE("खाइरहेको"), SLICE("(w खानु (hv))\n(w रहनु (hv))\n")) == YUNTHIREL_YES);
-    CHECK(yunthirel_has_progressive(SLICE("खाइरहेको"), SLICE("")) == YUNTHIREL_ANSWERED);
-    CHECK(yunthirel_progressive(SLICE("खाइरहेको"), SLICE("")) == YUNTHIREL_ANSWERED);
+    CHECK(yunthirel_is_yes(yunthirel_has_analysis(SLICE("घर"), SLICE("(w घर (w))\n"))));
+    CHECK(is(yunthirel_has_analysis(SLICE("घर"), SLICE("")), YUNTHIREL_ANSWERED));
+    CHECK(yunthirel_is_yes(yunthirel_has_progressive(SLICE("खाइरहेको"), SLICE("(w खानु (hv))\n(w रहनु (hv))\n"))));
+    CHECK(is(yunthirel_has_progressive(SLICE("खाइरहेको"), SLICE("")), YUNTHIREL_ANSWERED));
+    CHECK(is(yunthirel_progressive(SLICE("खाइरहेको"), SLICE("")), YUNTHIREL_ANSWERED));
+    CHECK(yunthirel_is_yes(yunthirel_has_known_root(SLICE("घर"), SLICE("(w घर (w))\n"))));
+    CHECK(is(yunthirel_has_known_root(SLICE("घर"), SLICE("")), YUNTHIREL_ANSWERED));
+    /* A refusal is no yes, and no form. */
+    CHECK(is(yunthirel_has_analysis(SLICE("("), SLICE("")), YUNTHIREL_WORD_FORBIDDEN));
+    CHECK(!yunthirel_is_yes(yunthirel_has_analysis(SLICE("("), SLICE(""))));
+    CHECK(!yunthirel_is_yes(yunthirel_has_known_root(SLICE("घर"), SLICE("(w aa (w))\n(w a (w))\n"))));
+    CHECK(yunthirel_form_of(yunthirel_progressive(SLICE("("), SLICE(""))).found == 0);
+    CHECK(yunthirel_form_of(yunthirel_progressive(SLICE("खाइरहेको"), SLICE(""))).found == 0);
 }
 
 static void texts_and_counts(void) {
     static uint8_t text[YUNTHIREL_LISTING_BYTES];
-    uint64_t code = yunthirel_listing(SLICE("घरले"), SLICE("(w घर (wh))\n"), text, sizeof text);
+    struct yunthirel_code code = yunthirel_listing(SLICE("घरले"), SLICE("(w घर (wh))\n"), text, sizeof text);
     CHECK(yunthirel_number_of(code) == YUNTHIREL_ANSWERED);
     CHECK(is_text(text, 0, yunthirel_count_of(code), "(list 1)\n(r घर घर () ((ले case)) 279)\n"));
     CHECK(yunthirel_count_of(ask_readings("घर", "")) == 0);
@@ -124,7 +137,7 @@ static void texts_and_counts(void) {
 
 /* The kind of the one suffix of घर in the word. */
 static int kind_of(const char *word) {
-    uint64_t code = ask_readings(word, "(k देखि (post))\n(k भित्र (comp))\n(w घर (w))\n");
+    struct yunthirel_code code = ask_readings(word, "(k देखि (post))\n(k भित्र (comp))\n(w घर (w))\n");
     CHECK(yunthirel_number_of(code) == YUNTHIREL_ANSWERED);
     CHECK(yunthirel_count_of(code) == 1);
     CHECK(readings[0].suffix_count == 1);
@@ -142,7 +155,7 @@ static void kinds(void) {
 /* A reading with all of its places in use, and one with few. */
 static void fields_of_a_reading(void) {
     const char *word = "उपप्रतिघरहरूबाटसम्मनै";
-    uint64_t code = ask_readings(word, "(w घर (wh))\n");
+    struct yunthirel_code code = ask_readings(word, "(w घर (wh))\n");
     CHECK(yunthirel_number_of(code) == YUNTHIREL_ANSWERED);
     CHECK(yunthirel_count_of(code) == 1);
     const struct yunthirel_reading *row = &readings[0];
@@ -173,7 +186,7 @@ static void fields_of_a_reading(void) {
 static void fields_of_a_root(void) {
     const char *word = "उपघरबारकोता";
     const char *sheet = "(w घरबार (wht))\n(w घरबारको (wh))\n(w घरबारकोता (w))\n";
-    uint64_t code = ask_candidates(word, sheet);
+    struct yunthirel_code code = ask_candidates(word, sheet);
     CHECK(yunthirel_number_of(code) == YUNTHIREL_ANSWERED);
     CHECK(yunthirel_count_of(code) == 3);
     const struct yunthirel_root *root = &roots[0];
@@ -190,7 +203,7 @@ static void fields_of_a_root(void) {
     CHECK(yunthirel_root_score(root) == 100 + 150 + 20 + 2 * 15 + 10 + 11);
 
     struct yunthirel_root whole;
-    CHECK(yunthirel_decompose(SLICE(word), SLICE(sheet), (uint8_t *)&whole, sizeof whole) == YUNTHIREL_ANSWERED);
+    CHECK(is(yunthirel_decompose(SLICE(word), SLICE(sheet), (uint8_t *)&whole, sizeof whole), YUNTHIREL_ANSWERED));
     CHECK(is_text((const uint8_t *)word, whole.start, whole.end, "घरबार"));
     CHECK(whole.prefix == root->prefix && whole.prefix_count == 1);
     CHECK(whole.suffix_count == 2);
@@ -212,9 +225,10 @@ static void known(void) {
 static void forms(void) {
     const char *sheet = "(l गरि (गर्नु))\n(w गर्नु (hv))\n(w रहनु (hv))\n";
     const char *word = "नगरिरहेको";
-    uint64_t code = yunthirel_progressive(SLICE(word), SLICE(sheet));
-    CHECK(yunthirel_number_of(code) == YUNTHIREL_YES);
+    struct yunthirel_code code = yunthirel_progressive(SLICE(word), SLICE(sheet));
+    CHECK(yunthirel_number_of(code) == YUNTHIREL_ANSWERED);
     struct yunthirel_form form = yunthirel_form_of(code);
+    CHECK(form.found == 1);
     CHECK(is_text((const uint8_t *)word, 0, form.main_end, "नगरि"));
     CHECK(is_text((const uint8_t *)sheet, form.lemma_at, form.lemma_at + form.lemma_len, "गर्नु"));
     /* The name of its own line, not the infinitive of the link line. */
@@ -228,7 +242,7 @@ static void forms(void) {
 
 /* An origin on a sheet that says it of घर: the word's, and that of the word as a candidate. */
 static int origin_of(const char *sheet) {
-    uint64_t code = yunthirel_origin(SLICE("घर"), SLICE(sheet));
+    struct yunthirel_code code = yunthirel_origin(SLICE("घर"), SLICE(sheet));
     CHECK(yunthirel_number_of(code) == YUNTHIREL_ANSWERED);
     CHECK(yunthirel_count_of(ask_candidates("घर", sheet)) == 1);
     CHECK(roots[0].origin == yunthirel_origin_of(code));
@@ -236,7 +250,7 @@ static int origin_of(const char *sheet) {
 }
 
 static int has_source(const char *word, const char *sheet, enum yunthirel_source source, float confidence) {
-    uint64_t code = yunthirel_origin(SLICE(word), SLICE(sheet));
+    struct yunthirel_code code = yunthirel_origin(SLICE(word), SLICE(sheet));
     CHECK(yunthirel_number_of(code) == YUNTHIREL_ANSWERED);
     float found = yunthirel_confidence(SLICE(word), SLICE(sheet));
     return yunthirel_source_of(code) == source && memcmp(&found, &confidence, sizeof found) == 0;
@@ -257,6 +271,7 @@ static void origins(void) {
 }
 
 static void sizes(void) {
+    CHECK(sizeof(struct yunthirel_code) == 8);
     CHECK(sizeof(struct yunthirel_segment) == 2);
     CHECK(sizeof(struct yunthirel_reading) == 18);
     CHECK(sizeof(struct yunthirel_root) == 33);

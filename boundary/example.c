@@ -24,7 +24,7 @@ static void print_part(const uint8_t *text, size_t from, size_t to) {
     printf(" %.*s", (int)(to - from), (const char *)text + from);
 }
 
-static void print_refusal(const char *what, uint64_t code) {
+static void print_refusal(const char *what, struct yunthirel_code code) {
     enum yunthirel_number number = yunthirel_number_of(code);
     printf("%s: refused %d", what, (int)number);
     if (number == YUNTHIREL_SHEET_NO_FORM || number == YUNTHIREL_SHEET_NOT_ABOVE) {
@@ -35,7 +35,7 @@ static void print_refusal(const char *what, uint64_t code) {
 
 static void print_readings(void) {
     struct yunthirel_reading rows[YUNTHIREL_READINGS];
-    uint64_t code = yunthirel_readings(word, word_len, sheet, sheet_len, (uint8_t *)rows, sizeof rows);
+    struct yunthirel_code code = yunthirel_readings(word, word_len, sheet, sheet_len, (uint8_t *)rows, sizeof rows);
     if (yunthirel_number_of(code) != YUNTHIREL_ANSWERED) {
         print_refusal("readings", code);
         return;
@@ -71,7 +71,7 @@ static void print_root(const struct yunthirel_root *root) {
 
 static void print_candidates(void) {
     struct yunthirel_root rows[YUNTHIREL_CANDIDATES];
-    uint64_t code = yunthirel_candidates(word, word_len, sheet, sheet_len, (uint8_t *)rows, sizeof rows);
+    struct yunthirel_code code = yunthirel_candidates(word, word_len, sheet, sheet_len, (uint8_t *)rows, sizeof rows);
     if (yunthirel_number_of(code) != YUNTHIREL_ANSWERED) {
         print_refusal("candidates", code);
         return;
@@ -86,7 +86,7 @@ static void print_candidates(void) {
 
 static void print_decomposition(void) {
     struct yunthirel_root root;
-    uint64_t code = yunthirel_decompose(word, word_len, sheet, sheet_len, (uint8_t *)&root, sizeof root);
+    struct yunthirel_code code = yunthirel_decompose(word, word_len, sheet, sheet_len, (uint8_t *)&root, sizeof root);
     if (yunthirel_number_of(code) != YUNTHIREL_ANSWERED) {
         print_refusal("decomposition", code);
         return;
@@ -96,10 +96,10 @@ static void print_decomposition(void) {
 }
 
 static void print_progressive(void) {
-    uint64_t code = yunthirel_progressive(word, word_len, sheet, sheet_len);
+    struct yunthirel_code code = yunthirel_progressive(word, word_len, sheet, sheet_len);
     if (yunthirel_number_of(code) == YUNTHIREL_ANSWERED) {
         printf("progressive form: none\n");
-    } else if (yunthirel_number_of(code) == YUNTHIREL_YES) {
+    } else if (yunthirel_form_of(code).found) {
         struct yunthirel_form form = yunthirel_form_of(code);
         printf("progressive form:");
         print_part(word, 0, form.main_end);
@@ -114,7 +114,7 @@ static void print_progressive(void) {
 }
 
 static void print_origin(void) {
-    uint64_t code = yunthirel_origin(word, word_len, sheet, sheet_len);
+    struct yunthirel_code code = yunthirel_origin(word, word_len, sheet, sheet_len);
     if (yunthirel_number_of(code) != YUNTHIREL_ANSWERED) {
         print_refusal("origin", code);
         return;

@@ -6,9 +6,9 @@
  * sheet. Every word and every sheet has an answer: nothing need be checked first. No function keeps a pointer, allocates or has a
  * state, so that threads may call them at once.
  *
- * Each function but yunthirel_confidence, which gives a float, gives a code. A code's lowest four bits (yunthirel_number_of) are 0 or
- * YUNTHIREL_YES, or the number of a refusal. After a refusal `out` is as it was; after an answer it is so past the answer's bytes. The
- * texts of rows are in yunthirel_labels.h. */
+ * Each function but yunthirel_confidence, which gives a float, gives a code: a struct, so that no test takes a refusal for a yes. Its
+ * number (yunthirel_number_of) is 0 for an answer, or that of a refusal. After a refusal `out` is as it was; after an answer it is so past
+ * the answer's bytes. The texts of rows are in yunthirel_labels.h. */
 #ifndef YUNTHIREL_H
 #define YUNTHIREL_H
 
@@ -19,7 +19,12 @@
 extern "C" {
 #endif
 
-/* What the lowest four bits of a code say. Of several refusals the lowest number is given, except that of 5 and 6 the earlier line
+/* A code: the number in the lowest byte, and above it the answer's value, or the place that comes with a refusal. */
+struct yunthirel_code {
+    uint64_t bits;
+};
+
+/* What the number of a code says. Of several refusals the lowest number is given, except that of 5 and 6 the earlier line
  * decides; those two have the line's first byte in the sheet above them (yunthirel_start_of). */
 enum yunthirel_number {
     YUNTHIREL_ANSWERED = 0,
@@ -30,29 +35,33 @@ enum yunthirel_number {
     YUNTHIREL_SHEET_NO_FORM = 5,    /* the first faulty line is no form */
     YUNTHIREL_SHEET_NOT_ABOVE = 6,  /* the first faulty line is a form, and not above the line before */
     YUNTHIREL_TOO_MANY_READINGS = 7, /* the word has more than 64 readings */
-    YUNTHIREL_OUTPUT_TOO_SHORT = 8, /* `out` is shorter than the answer */
-    YUNTHIREL_YES = 15              /* a yes, or a form that was found */
+    YUNTHIREL_OUTPUT_TOO_SHORT = 8  /* `out` is shorter than the answer */
 };
 
-static inline enum yunthirel_number yunthirel_number_of(uint64_t code) {
-    return (enum yunthirel_number)(code & 15);
+static inline enum yunthirel_number yunthirel_number_of(struct yunthirel_code code) {
+    return (enum yunthirel_number)(code.bits & 0xFF);
 }
 
 /* The faulty line's first byte in the sheet, for 5 and 6. */
-static inline size_t yunthirel_start_of(uint64_t code) {
-    return (size_t)(code >> 4);
+static inline size_t yunthirel_start_of(struct yunthirel_code code) {
+    return (size_t)(code.bits >> 8);
 }
 
 /* How many readings, candidates or bytes of text there are, for a code whose number is 0. */
-static inline size_t yunthirel_count_of(uint64_t code) {
-    return (size_t)(code >> 4);
+static inline size_t yunthirel_count_of(struct yunthirel_code code) {
+    return (size_t)(code.bits >> 8);
 }
 
-/* 0 for an accepted word; else 1, 2 or 3. */
-uint64_t yunthirel_check_word(const uint8_t *word, size_t word_len);
+/* 1 for a yes, 0 for a no and for every refusal: of a function that says yes or no. */
+static inline int yunthirel_is_yes(struct yunthirel_code code) {
+    return code.bits == 0x100;
+}
 
-/* 0 for an accepted sheet; else a code whose number is 4, 5 or 6. The functions below make this check by themselves. */
-uint64_t yunthirel_check_sheet(const uint8_t *sheet, size_t sheet_len);
+/* Number 0 for an accepted word; else 1, 2 or 3. */
+struct yunthirel_code yunthirel_check_word(const uint8_t *word, size_t word_len);
+
+/* Number 0 for an accepted sheet; else 4, 5 or 6. The functions below make this check by themselves. */
+struct yunthirel_code yunthirel_check_sheet(const uint8_t *sheet, size_t sheet_len);
 
 /* Readings. A stem is the word's first `stem` bytes, its root the stem from byte `root` on. Prefix rows, outermost first, are those of
  * yunthirel_prefix_labels; segments, nearest the stem first, have rows of yunthirel_affixes. Places that are not used are 0. */
@@ -85,15 +94,18 @@ struct yunthirel_reading {
 #define YUNTHIREL_LISTING_BYTES 35466
 
 /* The word's readings in rank order: `out` takes an array of struct yunthirel_reading, and its length is in bytes, as everywhere.
- * 16 times the number of readings; else a code whose number is 1 to 8. */
-uint64_t yunthirel_readings(const uint8_t *word, size_t word_len, const uint8_t *sheet, size_t sheet_len, uint8_t *out, size_t out_len);
+ * The number of readings (yunthirel_count_of); else a code whose number is 1 to 8. */
+struct yunthirel_code yunthirel_readings(const uint8_t *word, size_t word_len, const uint8_t *sheet, size_t sheet_len, uint8_t *out, size_t out_len);
 
-/* The same list as text, as the program `readings` prints it, without a 0 at its end. 16 times the number of bytes; else a code
- * whose number is 1 to 8. */
-uint64_t yunthirel_listing(const uint8_t *word, size_t word_len, const uint8_t *sheet, size_t sheet_len, uint8_t *out, size_t out_len);
+/* The same list as text, as the program `readings` prints it, without a 0 at its end. The number of bytes (yunthirel_count_of);
+ * else a code whose number is 1 to 8. */
+struct yunthirel_code yunthirel_listing(const uint8_t *word, size_t word_len, const uint8_t *sheet, size_t sheet_len, uint8_t *out, size_t out_len);
 
-/* YUNTHIREL_YES where the word has a reading, 0 where it has none; else a code whose number is 1 to 7. */
-uint64_t yunthirel_has_analysis(const uint8_t *word, size_t word_len, const uint8_t *sheet, size_t sheet_len);
+/* Whether the word has a reading (yunthirel_is_yes); else a code whose number is 1 to 7. */
+struct yunthirel_code yunthirel_has_analysis(const uint8_t *word, size_t word_len, const uint8_t *sheet, size_t sheet_len);
+
+/* Whether the word has a root candidate (yunthirel_is_yes); else a code whose number is 1 to 6. */
+struct yunthirel_code yunthirel_has_known_root(const uint8_t *word, size_t word_len, const uint8_t *sheet, size_t sheet_len);
 
 /* Root candidates, and the decomposition, which has neither `known` nor `score` (both 0). The root is the word from byte `start` up to
  * byte `end`. The prefix row is one of yunthirel_prefix_labels; suffix rows, in the order in which they were taken off, are those of
@@ -118,49 +130,51 @@ static inline uint16_t yunthirel_root_score(const struct yunthirel_root *root) {
     return (uint16_t)(root->score[0] | root->score[1] << 8);
 }
 
-/* The word's root candidates in rank order: `out` takes an array of struct yunthirel_root. 16 times their number; else a
- * code whose number is 1 to 6, or 8. */
-uint64_t yunthirel_candidates(const uint8_t *word, size_t word_len, const uint8_t *sheet, size_t sheet_len, uint8_t *out, size_t out_len);
+/* The word's root candidates in rank order: `out` takes an array of struct yunthirel_root. Their number
+ * (yunthirel_count_of); else a code whose number is 1 to 6, or 8. */
+struct yunthirel_code yunthirel_candidates(const uint8_t *word, size_t word_len, const uint8_t *sheet, size_t sheet_len, uint8_t *out, size_t out_len);
 
-/* The word's decomposition: `out` takes one struct yunthirel_root. 0; else a code whose number is 1 to 6, or 8. */
-uint64_t yunthirel_decompose(const uint8_t *word, size_t word_len, const uint8_t *sheet, size_t sheet_len, uint8_t *out, size_t out_len);
+/* The word's decomposition: `out` takes one struct yunthirel_root. Number 0; else 1 to 6, or 8. */
+struct yunthirel_code yunthirel_decompose(const uint8_t *word, size_t word_len, const uint8_t *sheet, size_t sheet_len, uint8_t *out, size_t out_len);
 
-/* The word as a progressive form: 0 for none, a code whose number is YUNTHIREL_YES, with the places that yunthirel_form_of reads, for
- * one; else a code whose number is 1 to 6. */
-uint64_t yunthirel_progressive(const uint8_t *word, size_t word_len, const uint8_t *sheet, size_t sheet_len);
+/* The word as a progressive form, as yunthirel_form_of reads it; else a code whose number is 1 to 6. */
+struct yunthirel_code yunthirel_progressive(const uint8_t *word, size_t word_len, const uint8_t *sheet, size_t sheet_len);
 
 /* The main form is the word's first `main_end` bytes, the auxiliary the rest; the lemma is a part of the sheet. */
 struct yunthirel_form {
+    int found; /* 1 for a form, 0 for none, and then all else is 0 */
     size_t main_end;
     size_t lemma_at;
     size_t lemma_len;
     int negative; /* 1 where a leading न was taken off to find the lemma */
 };
 
-static inline struct yunthirel_form yunthirel_form_of(uint64_t code) {
+static inline struct yunthirel_form yunthirel_form_of(struct yunthirel_code code) {
     struct yunthirel_form form;
-    form.main_end = (size_t)(code >> 5 & 0xFF);
-    form.lemma_at = (size_t)(code >> 21);
-    form.lemma_len = (size_t)(code >> 13 & 0xFF);
-    form.negative = (int)(code >> 4 & 1);
+    uint64_t value = yunthirel_number_of(code) == YUNTHIREL_ANSWERED ? code.bits >> 8 : 0;
+    form.found = (int)(value & 1);
+    form.main_end = (size_t)(value >> 2 & 0xFF);
+    form.lemma_at = (size_t)(value >> 18);
+    form.lemma_len = (size_t)(value >> 10 & 0xFF);
+    form.negative = (int)(value >> 1 & 1);
     return form;
 }
 
-/* YUNTHIREL_YES where the word is a supported progressive form, 0 where it is none; else a code whose number is 1 to 6. */
-uint64_t yunthirel_has_progressive(const uint8_t *word, size_t word_len, const uint8_t *sheet, size_t sheet_len);
+/* Whether the word is a supported progressive form (yunthirel_is_yes); else a code whose number is 1 to 6. */
+struct yunthirel_code yunthirel_has_progressive(const uint8_t *word, size_t word_len, const uint8_t *sheet, size_t sheet_len);
 
 /* Where the word comes from and how that is known, which yunthirel_origin_of and yunthirel_source_of read from a code whose number
  * is 0; else a code whose number is 1 to 6. */
-uint64_t yunthirel_origin(const uint8_t *word, size_t word_len, const uint8_t *sheet, size_t sheet_len);
+struct yunthirel_code yunthirel_origin(const uint8_t *word, size_t word_len, const uint8_t *sheet, size_t sheet_len);
 
 enum yunthirel_source { YUNTHIREL_OVERRIDE = 0, YUNTHIREL_KOSHA = 1, YUNTHIREL_HEURISTIC = 2, YUNTHIREL_UNKNOWN = 3 };
 
-static inline enum yunthirel_origin_tag yunthirel_origin_of(uint64_t code) {
-    return (enum yunthirel_origin_tag)(code >> 4 & 3);
+static inline enum yunthirel_origin_tag yunthirel_origin_of(struct yunthirel_code code) {
+    return (enum yunthirel_origin_tag)(code.bits >> 8 & 3);
 }
 
-static inline enum yunthirel_source yunthirel_source_of(uint64_t code) {
-    return (enum yunthirel_source)(code >> 6 & 3);
+static inline enum yunthirel_source yunthirel_source_of(struct yunthirel_code code) {
+    return (enum yunthirel_source)(code.bits >> 10 & 3);
 }
 
 /* How surely the origin is known: 0.0, 0.65, 0.90, 0.95 or 1.0; 0.0 for a refused word or sheet. */

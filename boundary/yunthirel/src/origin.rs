@@ -74,12 +74,12 @@ impl OriginDecision {
     ///
     /// Checked is that nothing but origin and source stands in the code; the confidence is taken as it is.
     pub fn of_code(code: u64, confidence: f32) -> Option<OriginDecision> {
-        if raw::number(code) != 0 || code >> 8 != 0 {
+        if raw::number(code) != 0 || code >> 12 != 0 {
             return None;
         }
         let sources = [OriginSource::Override, OriginSource::Kosha, OriginSource::Heuristic, OriginSource::Unknown];
-        let origin = Origin::of_number((code >> 4 & 3) as u8)?;
-        Some(OriginDecision { origin, source: sources[(code >> 6 & 3) as usize], confidence })
+        let origin = Origin::of_number((code >> 8 & 3) as u8)?;
+        Some(OriginDecision { origin, source: sources[(code >> 10 & 3) as usize], confidence })
     }
 }
 

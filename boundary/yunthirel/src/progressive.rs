@@ -22,20 +22,20 @@ pub struct ProgressiveAnalysis<'w, 's> {
 impl<'w, 's> ProgressiveAnalysis<'w, 's> {
     /// The form that a code of [`raw::progressive`] says for this word and sheet; none for codes that cannot be read as one.
     ///
-    /// Checked is that the number is 15, that the main form and the rest are parts of the word and UTF-8, and that the lemma is a part
+    /// Checked is that it says a form, that the main form and the rest are parts of the word and UTF-8, and that the lemma is a part
     /// of the sheet, UTF-8 and not empty; not that the library gives this code.
     pub fn of_code(word: &'w [u8], sheet: &'s [u8], code: u64) -> Option<ProgressiveAnalysis<'w, 's>> {
-        if raw::number(code) != 15 {
+        let value = raw::above(code);
+        if raw::number(code) != 0 || value & 1 != 1 {
             return None;
         }
-        let (main_end, lemma_len) = ((code >> 5 & 0xFF) as usize, (code >> 13 & 0xFF) as usize);
-        let lemma_at = (code >> 21) as usize;
+        let (main_end, lemma_len, lemma_at) = (value >> 2 & 0xFF, value >> 10 & 0xFF, value >> 18);
         Some(ProgressiveAnalysis {
             main_form: word.get(..main_end).and_then(text)?,
             main_lemma: sheet.get(lemma_at..)?.get(..lemma_len).and_then(text).filter(|lemma| !lemma.is_empty())?,
             auxiliary_form: word.get(main_end..).and_then(text)?,
             auxiliary_lemma: "रहनु",
-            negative: code >> 4 & 1 != 0,
+            negative: value >> 1 & 1 != 0,
         })
     }
 }
@@ -62,8 +62,8 @@ pub fn analyze_progressive<'w, 's>(
 ) -> Result<Option<ProgressiveAnalysis<'w, 's>>, Refusal> {
     let code = raw::progressive(word, sheet);
     match raw::number(code) {
-        0 if code == 0 => Ok(None),
-        15 => match ProgressiveAnalysis::of_code(word, sheet, code) {
+        0 if code == raw::NO => Ok(None),
+        0 => match ProgressiveAnalysis::of_code(word, sheet, code) {
             Some(found) => Ok(Some(found)),
             None => no_answer("yunthirel_progressive", &format!("gave {code:#x}")),
         },
@@ -77,8 +77,8 @@ pub fn analyze_progressive<'w, 's>(
 /// 1 to 6 for the word and the sheet.
 pub fn has_supported_progressive_form(word: &[u8], sheet: &[u8]) -> Result<bool, Refusal> {
     match raw::has_progressive(word, sheet) {
-        0 => Ok(false),
-        15 => Ok(true),
+        raw::NO => Ok(false),
+        raw::YES => Ok(true),
         code => Err(refused("yunthirel_has_progressive", INPUTS, code)),
     }
 }

@@ -1,8 +1,8 @@
 //! The library's functions as they are: slices in, a code out. Every input is allowed and has one answer.
 //!
-//! The lowest four bits of a code are 0 for an answer without a refusal, 15 for a yes or a form that was found, and else the
-//! [`Refusal`](crate::Refusal)'s number, which [`Refusal::of_code`](crate::Refusal::of_code) reads. After a refusal, 8 among them,
-//! a lent buffer is as it was; after an answer it is so past the answer's bytes.
+//! The lowest byte of a code is 0 for an answer, and else the [`Refusal`](crate::Refusal)'s number, which
+//! [`Refusal::of_code`](crate::Refusal::of_code) reads; above it stands the answer's value, or the place that comes with a refusal.
+//! After a refusal, 8 among them, a lent buffer is as it was; after an answer it is so past the answer's bytes.
 //!
 //! Only this module has unsafe code.
 #![allow(unsafe_code)]
@@ -25,15 +25,21 @@ pub const CANDIDATES_ROOM: usize = 16 * CANDIDATE_ROW;
 /// Bytes that are always enough for [`listing`].
 pub const LISTING_ROOM: usize = 35_466;
 
-/// The number in a code's lowest four bits.
+/// The number in a code's lowest byte.
 pub const fn number(code: u64) -> u8 {
-    (code & 15) as u8
+    (code & 0xFF) as u8
 }
 
-/// What stands above the number: how many rows or bytes there are, or the faulty line's first byte.
+/// What stands above the number: an answer's value, such as how many rows or bytes there are, or the faulty line's first byte.
 pub const fn above(code: u64) -> usize {
-    (code >> 4) as usize
+    (code >> 8) as usize
 }
+
+/// The code of a no, and of an accepted word or sheet.
+pub const NO: u64 = 0;
+
+/// The code of a yes.
+pub const YES: u64 = 1 << 8;
 
 mod foreign {
     // SAFETY: these are the library's declarations. Each function reads as many bytes at a pointer as the length after it says, and
@@ -44,6 +50,7 @@ mod foreign {
         pub fn yunthirel_progressive(word: *const u8, word_len: usize, sheet: *const u8, sheet_len: usize) -> u64;
         pub fn yunthirel_has_progressive(word: *const u8, word_len: usize, sheet: *const u8, sheet_len: usize) -> u64;
         pub fn yunthirel_has_analysis(word: *const u8, word_len: usize, sheet: *const u8, sheet_len: usize) -> u64;
+        pub fn yunthirel_has_known_root(word: *const u8, word_len: usize, sheet: *const u8, sheet_len: usize) -> u64;
         pub fn yunthirel_origin(word: *const u8, word_len: usize, sheet: *const u8, sheet_len: usize) -> u64;
         pub fn yunthirel_confidence(word: *const u8, word_len: usize, sheet: *const u8, sheet_len: usize) -> f32;
         pub fn yunthirel_readings(
@@ -87,32 +94,38 @@ pub fn check_word(word: &[u8]) -> u64 {
     unsafe { foreign::yunthirel_check_word(word.as_ptr(), word.len()) }
 }
 
-/// 0 for an accepted sheet, 4, or 5 or 6 and 16 times the faulty line's first byte.
+/// 0 for an accepted sheet, 4, or 5 or 6 and above it the faulty line's first byte.
 pub fn check_sheet(sheet: &[u8]) -> u64 {
     // SAFETY: as above.
     unsafe { foreign::yunthirel_check_sheet(sheet.as_ptr(), sheet.len()) }
 }
 
-/// The refusal; 0 for no progressive form; else 15 and, from bit 4 on, negative (1 bit), the main form's end in the word (8), the
-/// lemma's length (8) and its place in the sheet.
+/// The refusal; 0 for no progressive form; else above the number a bit that is set, negative (1 bit), the main form's end in the word (8
+/// bits), the lemma's length (8) and its place in the sheet.
 pub fn progressive(word: &[u8], sheet: &[u8]) -> u64 {
     // SAFETY: as above, for two slices.
     unsafe { foreign::yunthirel_progressive(word.as_ptr(), word.len(), sheet.as_ptr(), sheet.len()) }
 }
 
-/// The refusal; 15 for a supported progressive form, 0 for none.
+/// The refusal; [`YES`] for a supported progressive form, [`NO`] for none.
 pub fn has_progressive(word: &[u8], sheet: &[u8]) -> u64 {
     // SAFETY: as above.
     unsafe { foreign::yunthirel_has_progressive(word.as_ptr(), word.len(), sheet.as_ptr(), sheet.len()) }
 }
 
-/// The refusal, 7 for more than 64 readings among them; 15 for a word with readings, 0 for one without.
+/// The refusal, 7 for more than 64 readings among them; [`YES`] for a word with readings, [`NO`] for one without.
 pub fn has_analysis(word: &[u8], sheet: &[u8]) -> u64 {
     // SAFETY: as above.
     unsafe { foreign::yunthirel_has_analysis(word.as_ptr(), word.len(), sheet.as_ptr(), sheet.len()) }
 }
 
-/// The refusal; else 0 in the lowest four bits, then origin (2 bits) and source (2).
+/// The refusal; [`YES`] for a word with root candidates, [`NO`] for one without.
+pub fn has_known_root(word: &[u8], sheet: &[u8]) -> u64 {
+    // SAFETY: as above.
+    unsafe { foreign::yunthirel_has_known_root(word.as_ptr(), word.len(), sheet.as_ptr(), sheet.len()) }
+}
+
+/// The refusal; else above the number origin (2 bits) and source (2).
 pub fn origin(word: &[u8], sheet: &[u8]) -> u64 {
     // SAFETY: as above.
     unsafe { foreign::yunthirel_origin(word.as_ptr(), word.len(), sheet.as_ptr(), sheet.len()) }
@@ -124,7 +137,7 @@ pub fn confidence(word: &[u8], sheet: &[u8]) -> f32 {
     unsafe { foreign::yunthirel_confidence(word.as_ptr(), word.len(), sheet.as_ptr(), sheet.len()) }
 }
 
-/// The refusal, 7 for more than 64 readings and 8 for too short an `out` among them; else 16 times the number of readings, each a
+/// The refusal, 7 for more than 64 readings and 8 for too short an `out` among them; else the number of readings, each a
 /// row of [`READING_ROW`] bytes in `out`.
 pub fn readings(word: &[u8], sheet: &[u8], out: &mut [u8]) -> u64 {
     // SAFETY: as above, and the third slice is lent for writing and is no part of the others.
@@ -133,7 +146,7 @@ pub fn readings(word: &[u8], sheet: &[u8], out: &mut [u8]) -> u64 {
     }
 }
 
-/// The same list as the text that the program `readings` prints; 16 times the number of its bytes.
+/// The same list as the text that the program `readings` prints, and the number of its bytes.
 pub fn listing(word: &[u8], sheet: &[u8], out: &mut [u8]) -> u64 {
     // SAFETY: as above.
     unsafe {
@@ -141,7 +154,7 @@ pub fn listing(word: &[u8], sheet: &[u8], out: &mut [u8]) -> u64 {
     }
 }
 
-/// The refusal, 8 for too short an `out` among them; else 16 times the number of root candidates, each a row of
+/// The refusal, 8 for too short an `out` among them; else the number of root candidates, each a row of
 /// [`CANDIDATE_ROW`] bytes in `out`.
 pub fn candidates(word: &[u8], sheet: &[u8], out: &mut [u8]) -> u64 {
     let (word_at, sheet_at, out_at) = (word.as_ptr(), sheet.as_ptr(), out.as_mut_ptr());

@@ -135,8 +135,8 @@ pub fn best_analysis<'w>(word: &'w [u8], sheet: &[u8]) -> Result<Option<Reading<
 /// As [`analyze_affixes`].
 pub fn has_supported_analysis(word: &[u8], sheet: &[u8]) -> Result<bool, Refusal> {
     match raw::has_analysis(word, sheet) {
-        0 => Ok(false),
-        15 => Ok(true),
+        raw::NO => Ok(false),
+        raw::YES => Ok(true),
         code => Err(refused("yunthirel_has_analysis", LISTS, code)),
     }
 }

@@ -5,8 +5,9 @@ use crate::raw;
 use std::fmt;
 use std::ops::RangeInclusive;
 
-/// The eight causes. Where several apply, the lowest number is given, except that of 5 and 6 the earlier line decides.
+/// The causes. Where several apply, the lowest number is given, except that of 5 and 6 the earlier line decides.
 #[derive(Debug, Clone, Copy, PartialEq, Eq, Hash)]
+#[non_exhaustive]
 pub enum Refusal {
     /// 1: the word has more than 192 bytes.
     WordTooLong,
@@ -53,7 +54,7 @@ impl Refusal {
         }
     }
 
-    /// The number, 1 to 8.
+    /// The number.
     pub fn number(self) -> u8 {
         match self {
             Refusal::WordTooLong => 1,
@@ -118,16 +119,16 @@ mod tests {
 
     #[test]
     fn codes_that_are_no_refusal() {
-        for code in [0, 9, 15, 16, 1 + 16, 4 + 16, 7 + 16, 8 + 16, 5 + 16 * SHEET_LIMIT as u64, u64::MAX] {
+        for code in [0, 16, 255, 256, 1 + 256, 4 + 256, 7 + 256, 8 + 256, 5 + 256 * SHEET_LIMIT as u64, u64::MAX] {
             assert_eq!(Refusal::of_code(code), None, "{code}");
         }
     }
 
     #[test]
     fn numbers_and_places_come_back() {
-        for code in [1, 2, 3, 4, 5, 6, 7, 8, 5 + 16 * 12, 6 + 16 * 65_535] {
+        for code in [1, 2, 3, 4, 5, 6, 7, 8, 5 + 256 * 12, 6 + 256 * 65_535] {
             let refusal = Refusal::of_code(code).expect("a refusal");
-            assert_eq!(u64::from(refusal.number()) + 16 * refusal.start().unwrap_or(0) as u64, code);
+            assert_eq!(u64::from(refusal.number()) + 256 * refusal.start().unwrap_or(0) as u64, code);
         }
     }
 

@@ -150,7 +150,11 @@ pub fn best_root<'w>(word: &'w [u8], sheet: &[u8]) -> Result<Option<RootCandidat
 /// # Errors
 /// 1 to 6 for the word and the sheet; never 7.
 pub fn has_known_root(word: &[u8], sheet: &[u8]) -> Result<bool, Refusal> {
-    Ok(stored(word, sheet, &mut [0; CANDIDATES_ROOM])? > 0)
+    match raw::has_known_root(word, sheet) {
+        raw::NO => Ok(false),
+        raw::YES => Ok(true),
+        code => Err(refused("yunthirel_has_known_root", INPUTS, code)),
+    }
 }
 
 /// The number of rows that the library stores.

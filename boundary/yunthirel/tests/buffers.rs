@@ -65,8 +65,8 @@ fn a_refusal_leaves_the_buffer() {
         (b"\xFF", b"", 2),
         (b"(", b"", 3),
         (b"", &[b'\n'; 65_537], 4),
-        (b"", b"(w a (w))\n\n", 5 + 16 * 10),
-        (b"", b"(w a (w))\n(w a (w))\n", 6 + 16 * 10),
+        (b"", b"(w a (w))\n\n", 5 + 256 * 10),
+        (b"", b"(w a (w))\n(w a (w))\n", 6 + 256 * 10),
     ];
     for (word, sheet, code) in refused {
         for (ask, _) in FILLING {
@@ -86,12 +86,12 @@ fn codes_of_no_form_are_not_read() {
     let (word, sheet) = ("नखाइरहेको".as_bytes(), "(w खानु (hv))\n(w रहनु (hv))\n".as_bytes());
     let code = raw::progressive(word, sheet);
     assert!(ProgressiveAnalysis::of_code(word, sheet, code).is_some());
-    // The number alone, so that main form and lemma are empty; a lemma of 0 bytes; a lemma without its last byte; other numbers.
-    for other in [15, code & !(0xFF << 13), code - (1 << 13), code - 15, code - 1] {
+    // A form alone, so that main form and lemma are empty; a lemma of 0 bytes; a lemma without its last byte; none found; a number.
+    for other in [raw::YES, code & !(0xFF << 18), code - (1 << 18), code - raw::YES, code + 1] {
         assert_eq!(ProgressiveAnalysis::of_code(word, sheet, other), None, "{other:#x}");
     }
     // The main form a byte longer and past the word, the lemma a byte on, past the sheet and far past it.
-    for more in [1 << 5, 0x40 << 5, 1 << 21, 60 << 21, u64::MAX / 2] {
+    for more in [1 << 10, 0x40 << 10, 1 << 26, 60 << 26, u64::MAX / 2] {
         let other = code.wrapping_add(more);
         assert_eq!(ProgressiveAnalysis::of_code(word, sheet, other), None, "{other:#x}");
     }

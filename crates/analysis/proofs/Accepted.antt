@@ -13,7 +13,8 @@ use Rattle.ranking.specs.declared.Found.{Found}
 use Rattle.analysis.specs.Answers.{byRows, listedRows, bestRows, isSome}
 use Rattle.analysis.specs.declared.entry.Best.{Best}
 use Rattle.ranking.specs.declared.Reading.{Reading}
-use Rattle.analysis.specs.declared.entry.Said.the-variants.{Listed, TooMany}
+use Rattle.analysis.specs.declared.entry.Said.the-variants.{Listed, Refused}
+use Rattle.refusals.specs.declared.Refusal.the-variants.{TooManyReadings}
 use Rattle.text.specs.Utf8.{isUtf8}
 use Rattle.text.specs.Names.{holdsForbidden}
 use Rattle.text.specs.Word.{wordLimit, wordCheck}
@@ -32,7 +33,7 @@ word-parts w = by (ltb wordLimit (length w)) (isUtf8 w) (holdsForbidden w) refl 
 
 -- what has been collected, and what is said of it
 module _ (f : Found) (r : Rows) (e : foundOf f ≡ r) where
-  pub too-many : f .over ≡ true → (TooMany ≡ byRows r) × ([] ≡ listedRows r)
+  pub too-many : f .over ≡ true → (Refused TooManyReadings ≡ byRows r) × ([] ≡ listedRows r)
   too-many h = let q : over ≡ r = rw h at e in (ap byRows q, ap listedRows q)
 
   pub all-listed : f .over ≡ false → (Listed ≡ byRows r) × (rowsOf (f .list) ≡ listedRows r)

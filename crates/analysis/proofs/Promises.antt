@@ -3,7 +3,7 @@
 -- the rows are every reading exactly once, in rank order, with its segments and score, and nothing besides; there are none exactly where
 -- there is no reading; two sheets alike in their replies to the word's own questions give the same. What a reading is, is said without
 -- a search in paths/specs. Assumes nothing.
-use Prim.Native.Nat.{ℕ, suc, _≤_}
+use Prim.Native.Nat.{ℕ, suc, _≤_, _<_}
 use native.Mathlib.Omega.{arith}
 use mathlib.Core.Path.{_≡_, refl, sym, ap, subst, _∙_}
 use mathlib.Core.Logic.{_↔_}
@@ -17,9 +17,10 @@ use Rattle.sheet.specs.declared.check.SheetCheck.the-variants as sheets
 use Rattle.sheet.specs.Inputs.{inputsOf, numbersGiven, lowestNumbers}
 use Rattle.sheet.specs.declared.inputs.Inputs.{Inputs}
 use Rattle.sheet.specs.declared.inputs.Inputs.the-variants as inputs
-use Rattle.sheet.specs.declared.inputs.Refusal.{Refusal}
+use Rattle.refusals.specs.declared.Refusal.{Refusal}
 use Rattle.sheet.specs.Replies.{reply, Alike}
-use Rattle.sheet.proofs.Refusals.{accepted-both, lowest}
+use Rattle.refusals.specs.Refusals.{number}
+use Rattle.sheet.proofs.Refusals.{accepted-both, lowest, refused-low}
 use Rattle.ranking.specs.Lists.{listLimit, Rows, rows, over}
 use Rattle.ranking.specs.declared.Reading.{Reading}
 use Rattle.paths.specs.Chains.{Route}
@@ -34,6 +35,10 @@ use Rattle.analysis.specs.declared.entry.Said.{Said}
 use Rattle.analysis.specs.declared.entry.Said.the-variants as said
 use Rattle.analysis.specs.Answers.{collected, byRows, listedRows, saidBy, rowsBy, saidOf, rowsGiven, saidNumbers}
 use Rattle.analysis.proofs.Accepted.{word-parts}
+
+abbrev BelowEight : Said → Type 0
+BelowEight said.Listed = Unit {0}
+BelowEight (said.Refused r) = number r < 8
 
 -- an answer of the walk by its number, and the number by the answer
 seven-over : (c : Rows) → saidNumbers (byRows c) ≡ 7 ∷ [] → c ≡ over
@@ -112,3 +117,13 @@ refused w s r e = (
   ap (λ (i : Inputs). saidNumbers (saidBy i (collected w s))) e ∙ ap numbersGiven (sym e) ∙ lowest w s,
   ap (λ (i : Inputs). rowsBy i (collected w s)) e,
 )
+
+-- what is said instead of a list has one of the numbers 1 to 7
+pub said-below : (w s : List ℕ) (r : Refusal) → saidOf w s ≡ said.Refused r → number r < 8
+unfolding saidOf
+said-below w s r e = subst BelowEight e (by (inputsOf w s) refl (collected w s))
+  where
+    by : (i : Inputs) → inputsOf w s ≡ i → (c : Rows) → BelowEight (saidBy i c)
+    by inputs.Accepted p (rows rs) = tt
+    by inputs.Accepted p over = omega arith
+    by (inputs.Refused q) p c = let k = refused-low w s q p in omega arith

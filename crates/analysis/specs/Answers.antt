@@ -5,7 +5,9 @@ use mathlib.Core.Bool.{Bool, true, false}
 use mathlib.Core.List.{List, [], _∷_}
 use Rattle.runs.specs.Runs.{pick}
 use Rattle.text.specs.Characters.{chars}
-use Rattle.sheet.specs.Inputs.{inputsOf, numbersOf}
+use Rattle.refusals.specs.Refusals.{numbersOf}
+use Rattle.refusals.specs.declared.Refusal.the-variants.{TooManyReadings}
+use Rattle.sheet.specs.Inputs.{inputsOf}
 use Rattle.sheet.specs.Replies.{reply}
 use Rattle.sheet.specs.declared.inputs.Inputs.{Inputs}
 use Rattle.sheet.specs.declared.inputs.Inputs.the-variants as inputs
@@ -13,7 +15,7 @@ use Rattle.ranking.specs.Lists.{Rows, rows, over, plusAll}
 use Rattle.ranking.specs.declared.Reading.{Reading}
 use Rattle.paths.specs.Walk.{wordWalk}
 use Rattle.analysis.specs.declared.entry.Said.{Said}
-use Rattle.analysis.specs.declared.entry.Said.the-variants.{Listed, Refused, TooMany}
+use Rattle.analysis.specs.declared.entry.Said.the-variants.{Listed, Refused}
 use Rattle.analysis.specs.declared.entry.Best.{Best}
 use Rattle.analysis.specs.declared.entry.Has.{Has}
 use Rattle.analysis.specs.declared.entry.Has.the-variants as has
@@ -24,7 +26,7 @@ collected w s = plusAll w (rows []) (wordWalk (reply s) (chars w) w)
 
 abbrev pub byRows : Rows → Said
 byRows (rows rs) = Listed
-byRows over = TooMany
+byRows over = Refused TooManyReadings
 
 abbrev pub listedRows : Rows → List Reading
 listedRows (rows rs) = rs
@@ -47,11 +49,10 @@ saidOf w s = saidBy (inputsOf w s) (collected w s)
 unfoldable pub rowsGiven : List ℕ → List ℕ → List Reading
 rowsGiven w s = rowsBy (inputsOf w s) (collected w s)
 
--- document 01's number of each answer, for 5 and 6 with the faulty line's first byte; none where the list is given
+-- the number of each answer with its place; none where the list is given
 abbrev pub saidNumbers : Said → List ℕ
 saidNumbers Listed = []
 saidNumbers (Refused r) = numbersOf r
-saidNumbers TooMany = 7 ∷ []
 
 -- the reading that such an answer holds, one or none
 abbrev pub bestRows : Best → List Reading
@@ -65,13 +66,11 @@ isSome (r ∷ rs) = true
 abbrev pub hasBy : Said → Bool → Has
 hasBy Listed b = has.Given b
 hasBy (Refused r) b = has.Refused r
-hasBy TooMany b = has.TooMany
 
 unfoldable pub hasOf : List ℕ → List ℕ → Has
 hasOf w s = hasBy (saidOf w s) (isSome (rowsGiven w s))
 
--- document 01's number of each answer, none where one is given
+-- the same of a yes or no
 abbrev pub hasNumbers : Has → List ℕ
 hasNumbers (has.Given b) = []
 hasNumbers (has.Refused r) = numbersOf r
-hasNumbers has.TooMany = 7 ∷ []

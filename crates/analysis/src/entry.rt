@@ -9,8 +9,8 @@ use ranking::Listing;
 use ranking::Reading;
 use ranking::Segment;
 use ranking::nothing;
+use refusals::Refusal;
 use sheet::inputs::Inputs;
-use sheet::inputs::Refusal;
 ghost use mathlib.Core.Path.{_≡_};
 ghost use mathlib.Core.List.{[], _∷_};
 ghost use lib.ListN.{length, take};
@@ -23,12 +23,10 @@ ghost use Rattle.lookup.specs.Starts.{Room};
 ghost use Rattle.ranking.specs.Lists.{foundOf, rowsOf};
 ghost use Rattle.analysis.specs.Answers.{collected, byRows, listedRows, saidOf, rowsGiven, bestRows, hasOf};
 
-// What is said beside the list: it is given; word or sheet is refused; there are more than 64 readings. `saidNumbers` gives document
-// 01's number of each.
+// What is said beside the list: it is given, or why it is not, of which there being more than 64 readings is one reason.
 pub enum Said {
     Listed,
     Refused(Refusal),
-    TooMany,
 }
 
 // The list of readings, empty after a refusal, and what is said of it.
@@ -47,7 +45,6 @@ pub struct Best {
 // The answer of `has_supported_analysis`.
 pub enum Has {
     Refused(Refusal),
-    TooMany,
     Given(bool),
 }
 
@@ -113,7 +110,7 @@ fn listed(word: &[u8], sheet: &[u8], starts: &[Start]) -> Analysis
 {
     let found = collect(word, sheet, starts);
     if found.over {
-        return refused(Said::TooMany);
+        return refused(Said::Refused(Refusal::TooManyReadings));
     }
     let list = counted(found.list);
     Analysis {
@@ -182,7 +179,6 @@ pub fn has_supported_analysis(word: &[u8], sheet: &[u8]) -> Has
     let some = best.some;
     match said {
         Said::Refused(refusal) => Has::Refused(refusal),
-        Said::TooMany => Has::TooMany,
         Said::Listed => Has::Given(some),
     }
 }

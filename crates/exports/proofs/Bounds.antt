@@ -1,10 +1,10 @@
 -- How large the places of an answer are: an accepted word has at most 192 bytes, an accepted sheet at most 65,536, a lemma's name at
 -- most 210, and a faulty line begins inside the sheet. So each place fits its bits of a code. The proofs of the exported functions cite it. Assumes nothing.
-use Prim.Native.Nat.{ℕ, _+_, _≤_}
+use Prim.Native.Nat.{ℕ, _+_, _≤_, _<_}
 use mathlib.Core.Path.{_≡_, refl, sym, ap, subst, _∙_}
 use mathlib.Core.Bool.{Bool, true, false, not, _&&_}
-use mathlib.Core.List.{List, []}
-use lib.ListN.{length, drop}
+use mathlib.Core.List.{List, [], _∷_}
+use lib.ListN.{length, drop, getD}
 use lib.Dec.{ltb, leb}
 use native.Mathlib.Omega.{arith}
 use borrow.Author.Tests.{leb-true}
@@ -18,7 +18,7 @@ use Rattle.sheet.specs.Lines.{sheetLimit, sheetCheck, startsOf, lineAt}
 use Rattle.sheet.specs.Replies.{reply}
 use Rattle.sheet.specs.Inputs.{inputsOf, Placed}
 use Rattle.sheet.specs.declared.check.SheetCheck.the-variants as sheets
-use Rattle.sheet.specs.declared.inputs.Refusal.{Refusal}
+use Rattle.refusals.specs.declared.Refusal.{Refusal}
 use Rattle.sheet.specs.declared.inputs.Inputs.{Inputs}
 use Rattle.sheet.specs.declared.inputs.Inputs.the-variants as inputs
 use Rattle.sheet.proofs.Refusals.{accepted-each, refused-placed}
@@ -44,15 +44,32 @@ use Rattle.analysis.specs.declared.entry.Has.the-variants as has
 use Rattle.analysis.specs.declared.entry.Said.{Said}
 use Rattle.analysis.specs.declared.entry.Said.the-variants as said
 use Rattle.listing.specs.Texts.{listingText, listingRoom}
-use Rattle.listing.specs.Placed.{writtenOf}
+use Rattle.writing.specs.Placed.{writtenOf}
 use Rattle.listing.specs.Printed.{saidText, readingsText, outcomeBy, outcomeOf}
-use Rattle.listing.specs.declared.entry.Outcome.{Outcome as ListOutcome}
-use Rattle.listing.specs.declared.Written.the-variants.{Bytes, TooShort}
+use Rattle.refusals.specs.Refusals.{number, places, numbersOf, roomFor, Before}
+use Rattle.refusals.specs.declared.Refusal.the-variants.{OutputTooShort}
+use Rattle.refusals.specs.declared.Written.{Written}
+use Rattle.refusals.specs.declared.Written.the-variants as written
+use Rattle.refusals.proofs.Outputs.{number-small}
+use Rattle.roots.specs.Answers.{knownIf, knownAnswer, rootsFor}
+use Rattle.roots.specs.declared.entries.KnownAnswer.{KnownAnswer}
+use Rattle.roots.specs.declared.entries.KnownAnswer.the-variants as known
 use Rattle.exports.specs.Codes.{Small}
 use Rattle.decomposition.proofs.Short.{word-short}
 use Rattle.origin.specs.Answers.{decisionIf, decisionAnswer}
 use Rattle.origin.specs.declared.entries.DecisionAnswer.{DecisionAnswer}
 use Rattle.origin.specs.declared.entries.DecisionAnswer.the-variants as decisions
+
+-- the number of a refusal and its place, as the code hands them on
+pub number-alone : (r : Refusal) (n : ℕ) → n ∷ [] ≡ numbersOf r → n < 256
+number-alone r n e = let m = number-small r in let k : n ≡ number r = ap (λ (l : List ℕ). getD l 0 0) e in omega (arith, m)
+
+pub number-placed : (r : Refusal) (n at : ℕ) → n ∷ at ∷ [] ≡ numbersOf r → Placed r → (n < 256) × (at < sheetLimit)
+number-placed r n at e p =
+    let m = number-small r in
+    let k : n ≡ number r = ap (λ (l : List ℕ). getD l 0 0) e in
+    let q : Before sheetLimit (at ∷ []) = subst (Before sheetLimit) (sym (ap (λ (l : List ℕ). drop 1 l) e)) p in
+    (omega (arith, m), q .0)
 
 is-name-short : (x : List ℕ) → isName x ≡ true → length x ≤ 210
 unfolding isName
@@ -139,7 +156,6 @@ decision-refused w s d r e f = subst PlacedBy (sym e ∙ f) (decision-placed w s
 abbrev PlacedHas : Has → Type 0
 PlacedHas (has.Given b) = Unit {0}
 PlacedHas (has.Refused r) = Placed r
-PlacedHas has.TooMany = Unit {0}
 
 has-placed : (w s : List ℕ) → PlacedHas (hasOf w s)
 unfolding hasOf saidOf
@@ -153,11 +169,25 @@ has-placed w s = by (inputsOf w s) refl (collected w s)
 pub has-refused : (w s : List ℕ) (d : Has) (r : Refusal) → d ≡ hasOf w s → d ≡ has.Refused r → Placed r
 has-refused w s d r e f = subst PlacedHas (sym e ∙ f) (has-placed w s)
 
+abbrev PlacedKnown : KnownAnswer → Type 0
+PlacedKnown (known.Known b) = Unit {0}
+PlacedKnown (known.Refused r) = Placed r
+
+known-placed : (w s : List ℕ) → PlacedKnown (knownAnswer w s)
+unfolding knownAnswer
+known-placed w s = by (inputsOf w s) refl
+  where
+    by : (i : Inputs) → inputsOf w s ≡ i → PlacedKnown (knownIf i (rootsFor w s))
+    by inputs.Accepted e = tt
+    by (inputs.Refused r) e = refused-placed w s r e
+
+pub known-refused : (w s : List ℕ) (d : KnownAnswer) (r : Refusal) → d ≡ knownAnswer w s → d ≡ known.Refused r → Placed r
+known-refused w s d r e f = subst PlacedKnown (sym e ∙ f) (known-placed w s)
+
 -- the same of what is said of a list of readings; where it is given, the word is short
 abbrev PlacedSaid : List ℕ → Said → Type 0
 PlacedSaid w said.Listed = length w ≤ wordLimit
 PlacedSaid w (said.Refused r) = Placed r
-PlacedSaid w said.TooMany = Unit {0}
 
 said-placed : (w s : List ℕ) → PlacedSaid w (saidOf w s)
 unfolding saidOf
@@ -176,16 +206,15 @@ outcome-placed : (w s out : List ℕ) → length (readingsText w s) ≤ listingR
 unfolding outcomeOf readingsText
 outcome-placed w s out h = by (saidOf w s) (said-placed w s) h
   where
-    by : (x : Said) → PlacedSaid w x → length (saidText w x (rowsGiven w s)) ≤ listingRoom → Small (outcomeBy x (writtenOf (listingText w (rowsGiven w s)) out))
-    by said.Listed p n = to (leb (length (listingText w (rowsGiven w s))) (length out)) n
-      where
-        to : (b : Bool) → length (listingText w (rowsGiven w s)) ≤ listingRoom → Small (outcomeBy said.Listed (pick b (Bytes (length (listingText w (rowsGiven w s)))) TooShort))
-        to true n = n
-        to false n = tt
-    by (said.Refused r) p n = p
-    by said.TooMany p n = tt
+    to : (b : Bool) (n : ℕ) → n ≤ listingRoom → Small (pick b (written.Wrote n) (written.Refused OutputTooShort))
+    to true n h = h
+    to false n h = tt
 
-pub outcome-small : (w s out : List ℕ) (r : ListOutcome) → r ≡ outcomeOf w s out → length (readingsText w s) ≤ listingRoom → Small r
+    by : (x : Said) → PlacedSaid w x → length (saidText w x (rowsGiven w s)) ≤ listingRoom → Small (outcomeBy x (writtenOf (listingText w (rowsGiven w s)) out))
+    by said.Listed p n = to (leb (length (listingText w (rowsGiven w s))) (length out)) (length (listingText w (rowsGiven w s))) n
+    by (said.Refused r) p n = p
+
+pub outcome-small : (w s out : List ℕ) (r : Written) → r ≡ outcomeOf w s out → length (readingsText w s) ≤ listingRoom → Small r
 outcome-small w s out r e h = subst Small (sym e) (outcome-placed w s out h)
 
 -- what is said of word and sheet, i, turned out to be the refusal r

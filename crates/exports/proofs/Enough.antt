@@ -1,6 +1,6 @@
 -- Buffers that are always long enough: 1,152 bytes for the readings of a word, 528 for its root candidates, 35,466 for the list of its
 -- readings as a text. Assumes nothing.
-use Prim.Native.Nat.{ℕ, _*_, _≤_}
+use Prim.Native.Nat.{ℕ, _*_, _≤_, _<_}
 use native.Mathlib.Omega.{arith}
 use native.Mathlib.Nat.{suc-mul}
 use mathlib.Core.Path.{_≡_, refl, sym, ap, subst, _∙_}
@@ -12,8 +12,12 @@ use lib.Dec.{leb}
 use borrow.Author.Tests.{le-leb}
 use Rattle.sheet.specs.Inputs.{inputsOf}
 use Rattle.sheet.specs.Replies.{Ask, reply}
-use Rattle.sheet.specs.declared.inputs.Refusal.{Refusal}
-use Rattle.sheet.specs.declared.inputs.Refusal.the-variants.{WordTooLong, WordNotUtf8, WordForbidden, SheetTooLong, SheetNoForm, SheetNotAbove}
+use Rattle.refusals.specs.declared.Refusal.{Refusal}
+use Rattle.refusals.specs.Refusals.{number, places, numbersOf, outputBy}
+use Rattle.refusals.specs.declared.Refusal.the-variants.{OutputTooShort}
+use Rattle.refusals.specs.declared.Written.{Written}
+use Rattle.refusals.specs.declared.Written.the-variants as written
+use Rattle.refusals.proofs.Outputs as outputs
 use Rattle.sheet.specs.declared.inputs.Inputs.{Inputs}
 use Rattle.sheet.specs.declared.inputs.Inputs.the-variants as inputs
 use Rattle.sheet.proofs.Refusals.{accepted-each}
@@ -29,12 +33,12 @@ use Rattle.roots.proofs.Bounded.{roots-few}
 use Rattle.analysis.specs.declared.entry.Said.{Said}
 use Rattle.analysis.specs.declared.entry.Said.the-variants as said
 use Rattle.analysis.specs.Answers.{collected, saidBy, saidOf, rowsGiven, saidNumbers}
-use Rattle.analysis.proofs.Promises.{rows-few, seven-exactly, all-listed}
+use Rattle.analysis.proofs.Promises.{rows-few, seven-exactly, all-listed, said-below}
 use Rattle.listing.specs.Texts.{rowText, rowTexts, listingText, rowRoom, listingRoom}
-use Rattle.listing.specs.Placed.{writtenOf}
-use Rattle.listing.specs.Printed.{outcomeBy, outcomeOf, leftBy, leftOf}
+use Rattle.writing.specs.Placed.{writtenOf}
+use Rattle.listing.specs.Printed.{outcomeBy, outcomeOf, leftOf}
 use Rattle.listing.proofs.Room.{reading-size, listing-size}
-use Rattle.exports.specs.Codes.{refusalCode, outcomeCode}
+use Rattle.exports.specs.Codes.{coded, answered, refusalCode, writtenCode}
 use Rattle.exports.specs.Rows.{Filled, each, rowsFilled, readingBytes, readingsIf, readingsFilled}
 use Rattle.exports.specs.Filled.{candidateBytes, candidatesIf, candidatesFilled}
 use Rattle.exports.proofs.Widths.{rows-long}
@@ -42,7 +46,7 @@ use Rattle.exports.proofs.Put.{both}
 
 -- a list that is given is stored, all of it
 pub readings-enough : (w s out : List ℕ) → 1152 ≤ length out → saidOf w s ≡ said.Listed →
-    (16 * length (rowsGiven w s) ≡ readingsFilled w s out .code)
+    (answered (length (rowsGiven w s)) ≡ readingsFilled w s out .code)
     × (each readingBytes (rowsGiven w s) ++ drop (18 * length (rowsGiven w s)) out ≡ readingsFilled w s out .buffer)
 unfolding readingsFilled
 readings-enough w s out h e =
@@ -51,7 +55,7 @@ readings-enough w s out h e =
     both f (rows-long readingBytes 18 (length (rowsGiven w s)) (rowsGiven w s) out refl _ (omega arith) refl)
 
 pub candidates-enough : (w s out : List ℕ) → 528 ≤ length out → inputsOf w s ≡ inputs.Accepted →
-    (16 * length (rootsFor w s) ≡ candidatesFilled w s out .code)
+    (answered (length (rootsFor w s)) ≡ candidatesFilled w s out .code)
     × (each candidateBytes (rootsFor w s) ++ drop (33 * length (rootsFor w s)) out ≡ candidatesFilled w s out .buffer)
 unfolding candidatesFilled
 candidates-enough w s out h e =
@@ -118,33 +122,27 @@ listing-bounded w s e =
 
 -- so in a buffer of so many bytes the text stands whole
 pub listing-whole : (w s out : List ℕ) → listingRoom ≤ length out → saidOf w s ≡ said.Listed →
-    (16 * length (listingText w (rowsGiven w s)) ≡ outcomeCode (outcomeOf w s out))
+    (answered (length (listingText w (rowsGiven w s))) ≡ writtenCode (outcomeOf w s out))
     × (listingText w (rowsGiven w s) ++ drop (length (listingText w (rowsGiven w s))) out ≡ leftOf w s out)
 unfolding outcomeOf leftOf
 listing-whole w s out h e =
     let text = listingText w (rowsGiven w s) in
     let m = listing-bounded w s e in
     let t : leb (length text) (length out) ≡ true = le-leb (length text) (length out) (omega arith) in
-    let c : outcomeCode (outcomeBy said.Listed (writtenOf text out)) ≡ 16 * length text = rw t in
-    let f : leftBy said.Listed text out ≡ text ++ drop (length text) out = rw t in
-    (sym c ∙ ap (λ (x : Said). outcomeCode (outcomeBy x (writtenOf text out))) (sym e), sym f ∙ ap (λ (x : Said). leftBy x text out) (sym e))
-
--- no refusal's code is 8
-refusal-not-eight : (r : Refusal) → refusalCode r ≡ 8 → ⊥
-refusal-not-eight WordTooLong e = absurd (omega arith)
-refusal-not-eight WordNotUtf8 e = absurd (omega arith)
-refusal-not-eight WordForbidden e = absurd (omega arith)
-refusal-not-eight SheetTooLong e = absurd (omega arith)
-refusal-not-eight (SheetNoForm at) e = absurd (omega arith)
-refusal-not-eight (SheetNotAbove at) e = absurd (omega arith)
+    let o : written.Wrote (length text) ≡ outcomeBy (saidOf w s) (writtenOf text out) = outputs.is-written (length text) (length out) (length text) refl (omega arith)
+    ∙ ap (λ (x : Said). outcomeBy x (writtenOf text out)) (sym e) in
+    (ap writtenCode o, ap (λ (x : Written). outputBy x text out) o)
 
 -- and the code of `yunthirel_listing` is never 8
-pub listing-enough : (w s out : List ℕ) → listingRoom ≤ length out → outcomeCode (outcomeOf w s out) ≡ 8 → ⊥
+pub listing-enough : (w s out : List ℕ) → listingRoom ≤ length out → writtenCode (outcomeOf w s out) ≡ refusalCode OutputTooShort → ⊥
 unfolding outcomeOf
-listing-enough w s out h e = by (saidOf w s) (λ g. listing-whole w s out h g .0 ∙ e) e
+listing-enough w s out h e = by (saidOf w s) (λ g. listing-whole w s out h g .0 ∙ e) (said-below w s) e
   where
-    by : (x : Said) → (x ≡ said.Listed → 16 * length (listingText w (rowsGiven w s)) ≡ 8)
-        → outcomeCode (outcomeBy x (writtenOf (listingText w (rowsGiven w s)) out)) ≡ 8 → ⊥
-    by said.Listed k e = let z = k refl in absurd (omega arith)
-    by (said.Refused r) k e = refusal-not-eight r e
-    by said.TooMany k e = absurd (omega arith)
+    not-eight : (n : ℕ) (places : List ℕ) → n < 8 → coded (n ∷ places) ≡ 8 → ⊥
+    not-eight n [] h e = absurd (omega arith)
+    not-eight n (at ∷ more) h e = absurd (omega arith)
+
+    by : (x : Said) → (x ≡ said.Listed → answered (length (listingText w (rowsGiven w s))) ≡ 8) → ((r : Refusal) → x ≡ said.Refused r → number r < 8)
+        → writtenCode (outcomeBy x (writtenOf (listingText w (rowsGiven w s)) out)) ≡ 8 → ⊥
+    by said.Listed k b e = let z = k refl in absurd (omega arith)
+    by (said.Refused r) k b e = not-eight (number r) (places r) (b r refl) e

@@ -17,7 +17,8 @@ use Rattle.analysis.specs.declared.entry.Said.{Said}
 use Rattle.analysis.specs.Answers.{saidOf, rowsGiven}
 use Rattle.roots.specs.Answers.{rootsFor}
 use Rattle.roots.specs.declared.RootCandidate.{RootCandidate}
-use Rattle.exports.specs.Codes.{bit, originNumber}
+use Rattle.refusals.specs.declared.Refusal.the-variants.{OutputTooShort}
+use Rattle.exports.specs.Codes.{bit, originNumber, refusalCode}
 use Rattle.exports.specs.Rows.{Filled, kindNumber, noSegment, readingBytes, readingsIf, readingsFilled}
 use Rattle.exports.specs.Filled.{partsBytes, morphemeBytes, candidateBytes, stored, decomposeIf, decomposeFilled, candidatesIf, candidatesFilled}
 
@@ -38,7 +39,7 @@ reading-bytes r p q s t u v w x y z = rw (p, q, s, t, u, v, w, x, y, z)
 
 -- a buffer that is too short, and one that is long enough
 module _ (code : ℕ) (bytes out : List ℕ) where
-  pub stored-short : length out < 33 → (8 ≡ stored code bytes out .code) × (out ≡ stored code bytes out .buffer)
+  pub stored-short : length out < 33 → (refusalCode OutputTooShort ≡ stored code bytes out .code) × (out ≡ stored code bytes out .buffer)
   stored-short h = rw (lt-ltb (length out) 33 h) (refl, refl)
 
   pub stored-long : (later : List ℕ) → 33 ≤ length out → later ≡ bytes ++ drop 33 out → (code ≡ stored code bytes out .code) × (later ≡ stored code bytes out .buffer)

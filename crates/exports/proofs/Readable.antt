@@ -11,11 +11,12 @@ use lib.Seq.{take-at, drop-append-add}
 use Rattle.text.specs.Word.{wordLimit}
 use Rattle.tables.specs.declared.origins.Origin.{Origin}
 use Rattle.tables.specs.declared.origins.Origin.the-variants.{Tatsam, Tadbhav, Deshaj, Aagantuk}
-use Rattle.sheet.specs.Inputs.{numbersOf, inputsOf, sheetNumbers}
+use Rattle.refusals.specs.Refusals.{number, places, numbersOf}
+use Rattle.refusals.proofs.Outputs.{number-small}
+use Rattle.text.specs.declared.word.WordCheck.{WordCheck}
+use Rattle.sheet.specs.Inputs.{inputsOf, ofWord, bySheet, numbersGiven}
 use Rattle.sheet.specs.declared.check.SheetCheck.{SheetCheck}
-use Rattle.sheet.specs.declared.check.SheetCheck.the-variants as sheets
-use Rattle.sheet.specs.declared.inputs.Refusal.{Refusal}
-use Rattle.sheet.specs.declared.inputs.Refusal.the-variants.{WordTooLong, WordNotUtf8, WordForbidden, SheetTooLong, SheetNoForm, SheetNotAbove}
+use Rattle.refusals.specs.declared.Refusal.{Refusal}
 use Rattle.sheet.specs.Replies.{reply}
 use Rattle.sheet.specs.declared.inputs.Inputs.{Inputs}
 use Rattle.sheet.specs.declared.inputs.Inputs.the-variants as inputs
@@ -47,8 +48,8 @@ use Rattle.decomposition.specs.declared.entries.MorphemeAnswer.{MorphemeAnswer}
 use Rattle.roots.specs.Lists.{noCandidate}
 use Rattle.roots.specs.Answers.{rootsFor}
 use Rattle.roots.specs.declared.RootCandidate.{RootCandidate}
-use Rattle.exports.specs.Codes.{bit, sheetCode, refusalCode, formCode, progressiveCode, originNumber, sourceNumber, originCode}
-use Rattle.exports.specs.Read.{numberOf, startOf, countOf, negativeOf, mainEndOf, lemmaLenOf, lemmaAtOf, originOf, sourceOf, kindAt, readingAt, originAt, hasBit, partsAt, candidateAt, decompositionAt}
+use Rattle.exports.specs.Codes.{coded, answered, bit, wordCode, sheetCode, refusalCode, formValue, progressiveCode, originNumber, sourceNumber, originCode}
+use Rattle.exports.specs.Read.{numberOf, valueOf, foundOf, negativeOf, mainEndOf, lemmaLenOf, lemmaAtOf, originOf, sourceOf, kindAt, readingAt, originAt, hasBit, partsAt, candidateAt, decompositionAt}
 use Rattle.exports.specs.Rows.{Filled, each, rowsFilled, cells, kindNumber, noSegment, readingBytes, readingsIf, readingsFilled}
 use Rattle.exports.specs.Filled.{partsBytes, morphemeBytes, candidateBytes, stored, decomposeIf, decomposeFilled, candidatesIf, candidatesFilled}
 use Rattle.exports.proofs.Bounds.{SmallForm, answer-small}
@@ -57,46 +58,44 @@ use Rattle.exports.proofs.Put.{both, stored-long, answer-inputs}
 use Rattle.exports.proofs.Enough.{two-prefixes, four-segments, given-paths}
 use Rattle.exports.proofs.Places.{Full, FullRow, Every, answer-full, roots-full}
 
--- a refusal's number, and the first byte of the faulty line, 0 where no line is at fault
-pub refusal-read : (r : Refusal) → (numberOf (refusalCode r) ≡ getD (numbersOf r) 0 0) × (startOf (refusalCode r) ≡ getD (numbersOf r) 1 0)
-refusal-read WordTooLong = (refl, refl)
-refusal-read WordNotUtf8 = (refl, refl)
-refusal-read WordForbidden = (refl, refl)
-refusal-read SheetTooLong = (refl, refl)
-refusal-read (SheetNoForm at) = (omega arith, omega arith)
-refusal-read (SheetNotAbove at) = (omega arith, omega arith)
+-- the number of a code and the place above it, 0 where there is none
+coded-read : (n : ℕ) (places : List ℕ) → n < 256 → (numberOf (coded (n ∷ places)) ≡ n) × (valueOf (coded (n ∷ places)) ≡ getD places 0 0)
+coded-read n [] h = (omega arith, omega arith)
+coded-read n (at ∷ more) h = (omega arith, omega arith)
 
--- the number is 1 to 6, so no answer's code has it
-pub refusal-numbered : (r : Refusal) → (1 ≤ numberOf (refusalCode r)) × (numberOf (refusalCode r) ≤ 6)
-refusal-numbered WordTooLong = (omega arith, omega arith)
-refusal-numbered WordNotUtf8 = (omega arith, omega arith)
-refusal-numbered WordForbidden = (omega arith, omega arith)
-refusal-numbered SheetTooLong = (omega arith, omega arith)
-refusal-numbered (SheetNoForm at) = (omega arith, omega arith)
-refusal-numbered (SheetNotAbove at) = (omega arith, omega arith)
+pub refusal-read : (r : Refusal) → (numberOf (refusalCode r) ≡ number r) × (valueOf (refusalCode r) ≡ getD (places r) 0 0)
+refusal-read r = coded-read (number r) (places r) (number-small r .1)
 
--- the same of what the check of a sheet gives, with 0 for an accepted one
-pub sheet-read : (c : SheetCheck) → (numberOf (sheetCode c) ≡ getD (sheetNumbers c) 0 0) × (startOf (sheetCode c) ≡ getD (sheetNumbers c) 1 0)
-sheet-read sheets.Accepted = (refl, refl)
-sheet-read sheets.TooLong = (refl, refl)
-sheet-read (sheets.NoForm at) = (omega arith, omega arith)
-sheet-read (sheets.NotAbove at) = (omega arith, omega arith)
+-- the number of a refusal is not 0, so no answer's code has it
+pub refusal-numbered : (r : Refusal) → 1 ≤ numberOf (refusalCode r)
+refusal-numbered r = let n = number-small r in let e = refusal-read r .0 in omega (arith, n)
 
--- how many rows or bytes there are
-pub count-read : (n : ℕ) → (numberOf (16 * n) ≡ 0) × (countOf (16 * n) ≡ n)
-count-read n = (omega arith, omega arith)
+-- the value of an answer
+pub answer-read : (value : ℕ) → (numberOf (answered value) ≡ 0) × (valueOf (answered value) ≡ value)
+answer-read value = (omega arith, omega arith)
+
+-- the same of what the checks of a word and of a sheet give: 0 for accepted ones
+inputs-read : (i : Inputs) → (numberOf (coded (numbersGiven i)) ≡ getD (numbersGiven i) 0 0) × (valueOf (coded (numbersGiven i)) ≡ getD (numbersGiven i) 1 0)
+inputs-read inputs.Accepted = (refl, refl)
+inputs-read (inputs.Refused r) = refusal-read r
+
+pub word-read : (c : WordCheck) → (numberOf (wordCode c) ≡ getD (numbersGiven (ofWord c)) 0 0) × (valueOf (wordCode c) ≡ getD (numbersGiven (ofWord c)) 1 0)
+word-read c = inputs-read (ofWord c)
+
+pub sheet-read : (c : SheetCheck) → (numberOf (sheetCode c) ≡ getD (numbersGiven (bySheet c)) 0 0) × (valueOf (sheetCode c) ≡ getD (numbersGiven (bySheet c)) 1 0)
+sheet-read c = inputs-read (bySheet c)
 
 bit-small : (b : Bool) → bit b ≤ 1
 bit-small true = omega arith
 bit-small false = omega arith
 
--- the parts of a form's code, as numbers
+-- the parts of a form's value, as numbers
 parts-read : (b m l a : ℕ) → b ≤ 1 → m < 256 → l < 256 →
-    ((15 + 16 * b + (32 * m + 8192 * l + 2097152 * a)) % 16 ≡ 15)
-    × ((15 + 16 * b + (32 * m + 8192 * l + 2097152 * a)) / 16 % 2 ≡ b)
-    × ((15 + 16 * b + (32 * m + 8192 * l + 2097152 * a)) / 32 % 256 ≡ m)
-    × ((15 + 16 * b + (32 * m + 8192 * l + 2097152 * a)) / 8192 % 256 ≡ l)
-    × ((15 + 16 * b + (32 * m + 8192 * l + 2097152 * a)) / 2097152 ≡ a)
+    ((1 + 2 * b + 4 * m + 1024 * l + 262144 * a) % 2 ≡ 1)
+    × ((1 + 2 * b + 4 * m + 1024 * l + 262144 * a) / 2 % 2 ≡ b)
+    × ((1 + 2 * b + 4 * m + 1024 * l + 262144 * a) / 4 % 256 ≡ m)
+    × ((1 + 2 * b + 4 * m + 1024 * l + 262144 * a) / 1024 % 256 ≡ l)
+    × ((1 + 2 * b + 4 * m + 1024 * l + 262144 * a) / 262144 ≡ a)
 parts-read b m l a hb hm hl = (omega arith, omega arith, omega arith, omega arith, omega arith)
 
 -- the main form ends in the word
@@ -119,17 +118,22 @@ answer-inside w s = by (inputsOf w s)
 -- the code reads as the form, which was found
 abbrev pub FormRead : ℕ → Progressive → Type 0
 FormRead code f =
-    (numberOf code ≡ 15)
+    (numberOf code ≡ 0)
+    × (foundOf code ≡ 1)
     × (negativeOf code ≡ bit (f .negative))
     × (mainEndOf code ≡ f .«main_end»)
     × (lemmaLenOf code ≡ f .«lemma_len»)
     × (lemmaAtOf code ≡ f .«lemma_at»)
 
 -- so it does within the bounds of main form and lemma
-pub form-read : (f : Progressive) → f .found ≡ true → f .«main_end» ≤ wordLimit → f .«lemma_len» ≤ 210 → FormRead (formCode f) f
+pub form-read : (f : Progressive) → f .found ≡ true → f .«main_end» ≤ wordLimit → f .«lemma_len» ≤ 210 → FormRead (answered (formValue f)) f
 form-read f e h k =
     let p = parts-read (bit (f .negative)) (f .«main_end») (f .«lemma_len») (f .«lemma_at») (bit-small (f .negative)) (omega arith) (omega arith) in
-    rw e p
+    let v = 1 + 2 * bit (f .negative) + 4 * f .«main_end» + 1024 * f .«lemma_len» + 262144 * f .«lemma_at» in
+    let a = answer-read v in
+    let z : formValue f ≡ v = rw e in
+    subst (λ (x : ℕ). FormRead (answered x) f) (sym z)
+    (a .0, ap (λ (x : ℕ). x % 2) (a .1) ∙ p .0, ap (λ (x : ℕ). x / 2 % 2) (a .1) ∙ p .1, ap (λ (x : ℕ). x / 4 % 256) (a .1) ∙ p .2, ap (λ (x : ℕ). x / 1024 % 256) (a .1) ∙ p .3, ap (λ (x : ℕ). x / 262144) (a .1) ∙ p .4)
 
 -- and so for every word and sheet, since answers keep to them
 pub progressive-read : (w s : List ℕ) (f : Progressive) → answerOf w s ≡ answers.Given f → f .found ≡ true → FormRead (progressiveCode (answerOf w s)) f
@@ -139,7 +143,7 @@ progressive-read w s f e t =
     subst (λ (a : Answer). FormRead (progressiveCode a) f) (sym e) (form-read f t (omega (arith, n, m)) (n .2))
 
 -- none was found
-pub no-form-read : (f : Progressive) → f .found ≡ false → formCode f ≡ 0
+pub no-form-read : (f : Progressive) → f .found ≡ false → answered (formValue f) ≡ 0
 no-form-read f e = rw e
 
 origin-small : (o : Origin) → originNumber o ≤ 3

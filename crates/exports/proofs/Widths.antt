@@ -12,6 +12,8 @@ use lib.Seq.{length-take-le, take-all, take-suc, take-at, drop-at, drop-drop}
 use lib.Dec.{ltb}
 use borrow.Rule.Slice.PartMut.{midOf, putMid}
 use borrow.Author.Tests.{lt-ltb, le-ltb}
+use Rattle.refusals.specs.declared.Refusal.the-variants.{OutputTooShort}
+use Rattle.exports.specs.Codes.{answered, refusalCode}
 use Rattle.exports.specs.Rows.{Filled, each, rowsFilled}
 
 module _ {A : Type 0} (bytes : A → List ℕ) where
@@ -71,16 +73,16 @@ module _ {A : Type 0} (bytes : A → List ℕ) where
 
   -- what is handed back and left: too short a buffer, and one that is long enough
   module _ (width n : ℕ) (rows : List A) (out : List ℕ) (counted : n ≡ length rows) where
-    pub rows-short : length out < width * n → (8 ≡ rowsFilled width bytes rows out .code) × (out ≡ rowsFilled width bytes rows out .buffer)
+    pub rows-short : length out < width * n → (refusalCode OutputTooShort ≡ rowsFilled width bytes rows out .code) × (out ≡ rowsFilled width bytes rows out .buffer)
     rows-short h =
         let t : ltb (length out) (width * length rows) ≡ true = ap (λ (k : ℕ). ltb (length out) (width * k)) (sym counted) ∙ lt-ltb (length out) (width * n) h in
         rw t (refl, refl)
 
     pub rows-long : (later : List ℕ) → width * n ≤ length out → later ≡ each bytes rows ++ drop (width * n) out →
-        (16 * n ≡ rowsFilled width bytes rows out .code) × (later ≡ rowsFilled width bytes rows out .buffer)
+        (answered n ≡ rowsFilled width bytes rows out .code) × (later ≡ rowsFilled width bytes rows out .buffer)
     rows-long later h e =
         let t : ltb (length out) (width * length rows) ≡ false = ap (λ (k : ℕ). ltb (length out) (width * k)) (sym counted) ∙ le-ltb (length out) (width * n) h in
-        rw t (ap (λ (k : ℕ). 16 * k) counted, e ∙ ap (λ (k : ℕ). each bytes rows ++ drop (width * k) out) counted)
+        rw t (ap (λ (k : ℕ). answered k) counted, e ∙ ap (λ (k : ℕ). each bytes rows ++ drop (width * k) out) counted)
 
 -- so many elements can be taken as there are
 pub taken-few : {A : Type 0} (xs : List A) (n : ℕ) → n ≡ length (take n xs) → n ≤ length xs

@@ -1,27 +1,29 @@
--- How the static library's functions give their answers as numbers: document 01's number of a refusal in the lowest four bits, and
--- above them, for 5 and 6, the first byte of the faulty line; an origin stands above them too, and a form has 15 in them, which is no refusal's number. Assumes nothing.
+-- How the static library's functions give their answers as numbers: the lowest byte of a code is the number of a refusal, 0 for an
+-- answer; above it stand the place that comes with a refusal, or the answer's value. Assumes nothing.
 use Prim.Native.Nat.{ℕ, _+_, _*_, _≤_}
 use mathlib.Core.Bool.{Bool, true, false}
 use mathlib.Core.List.{List, [], _∷_}
 use lib.Ieee.{Float}
 use Rattle.runs.specs.Runs.{pick}
+use Rattle.refusals.specs.Refusals.{numbersOf}
+use Rattle.refusals.specs.declared.Refusal.{Refusal}
+use Rattle.refusals.specs.declared.Written.{Written}
+use Rattle.refusals.specs.declared.Written.the-variants as written
+use Rattle.text.specs.declared.word.WordCheck.{WordCheck}
 use Rattle.tables.specs.declared.origins.Origin.{Origin}
 use Rattle.tables.specs.declared.origins.Origin.the-variants.{Tatsam, Tadbhav, Deshaj, Aagantuk}
-use Rattle.sheet.specs.Inputs.{numbersOf, sheetNumbers, Placed}
+use Rattle.sheet.specs.Inputs.{ofWord, bySheet, numbersGiven, Placed}
 use Rattle.sheet.specs.declared.check.SheetCheck.{SheetCheck}
-use Rattle.sheet.specs.declared.inputs.Refusal.{Refusal}
 use Rattle.progressive.specs.declared.find.Progressive.{Progressive}
 use Rattle.progressive.specs.declared.entry.Answer.{Answer}
 use Rattle.progressive.specs.declared.entry.Answer.the-variants as answers
 use Rattle.progressive.specs.declared.entry.Supported.{Supported}
 use Rattle.progressive.specs.declared.entry.Supported.the-variants as supports
 use Rattle.listing.specs.Texts.{listingRoom}
-use Rattle.listing.specs.Printed.{outcomeNumbers}
-use Rattle.listing.specs.declared.entry.Outcome.{Outcome}
-use Rattle.listing.specs.declared.entry.Outcome.the-variants as outcomes
-use Rattle.analysis.specs.Answers.{hasNumbers}
 use Rattle.analysis.specs.declared.entry.Has.{Has}
 use Rattle.analysis.specs.declared.entry.Has.the-variants as has
+use Rattle.roots.specs.declared.entries.KnownAnswer.{KnownAnswer}
+use Rattle.roots.specs.declared.entries.KnownAnswer.the-variants as known
 use Rattle.origin.specs.Decisions.{none}
 use Rattle.origin.specs.declared.OriginSource.{OriginSource}
 use Rattle.origin.specs.declared.OriginSource.the-variants.{Override, Kosha, Heuristic, Unknown}
@@ -29,58 +31,61 @@ use Rattle.origin.specs.declared.OriginDecision.{OriginDecision}
 use Rattle.origin.specs.declared.entries.DecisionAnswer.{DecisionAnswer}
 use Rattle.origin.specs.declared.entries.DecisionAnswer.the-variants as decisions
 
--- a number alone, or with the first byte of the faulty line; 0 for none
+-- a number alone, or with its place above it; 0 for none
 abbrev pub coded : List ℕ → ℕ
 coded [] = 0
 coded (n ∷ []) = n
-coded (n ∷ at ∷ more) = n + 16 * at
+coded (n ∷ at ∷ more) = n + 256 * at
+
+-- an answer's value
+abbrev pub answered : ℕ → ℕ
+answered value = 256 * value
+
+abbrev pub wordCode : WordCheck → ℕ
+wordCode c = coded (numbersGiven (ofWord c))
 
 abbrev pub sheetCode : SheetCheck → ℕ
-sheetCode c = coded (sheetNumbers c)
+sheetCode c = coded (numbersGiven (bySheet c))
 
 abbrev pub refusalCode : Refusal → ℕ
 refusalCode r = coded (numbersOf r)
 
+-- the value of a yes is 1, of a no 0
 abbrev pub bit : Bool → ℕ
 bit true = 1
 bit false = 0
 
--- where a form's main form ends, and where and how long its lemma's name is: from bits 5, 21 and 13 on
-abbrev pub placesCode : Progressive → ℕ
-placesCode f = 32 * f .«main_end» + 8192 * f .«lemma_len» + 2097152 * f .«lemma_at»
-
--- 0 for none; else 15, which is no refusal's number, the sign in bit 4 and the places
-abbrev pub formCode : Progressive → ℕ
-formCode f = pick (f .found) (15 + 16 * bit (f .negative) + placesCode f) 0
+-- the value of a form: 0 for none; else bit 0, the sign in bit 1, and where the main form ends, how long the lemma's name is and where
+-- it stands from bits 2, 10 and 18 on
+abbrev pub formValue : Progressive → ℕ
+formValue f = pick (f .found) (1 + 2 * bit (f .negative) + 4 * f .«main_end» + 1024 * f .«lemma_len» + 262144 * f .«lemma_at») 0
 
 abbrev pub progressiveCode : Answer → ℕ
 progressiveCode (answers.Refused r) = refusalCode r
-progressiveCode (answers.Given form) = formCode form
+progressiveCode (answers.Given form) = answered (formValue form)
 
--- 15 for yes, which is no refusal's number, and 0 for no
+-- yes or no
 abbrev pub supportedCode : Supported → ℕ
 supportedCode (supports.Refused r) = refusalCode r
-supportedCode (supports.Given b) = pick b 15 0
+supportedCode (supports.Given b) = answered (bit b)
 
--- the same of readings, of which there may be more than 64
 abbrev pub hasCode : Has → ℕ
-hasCode (has.Given b) = pick b 15 0
+hasCode (has.Given b) = answered (bit b)
 hasCode (has.Refused r) = refusalCode r
-hasCode has.TooMany = coded (hasNumbers has.TooMany)
 
--- a list that was written as a text, by the bytes of the text; else the number of why it is not
-abbrev pub outcomeCode : Outcome → ℕ
-outcomeCode (outcomes.Bytes n) = 16 * n
-outcomeCode (outcomes.Refused r) = coded (outcomeNumbers (outcomes.Refused r))
-outcomeCode outcomes.TooMany = coded (outcomeNumbers outcomes.TooMany)
-outcomeCode outcomes.TooShort = coded (outcomeNumbers outcomes.TooShort)
+abbrev pub knownCode : KnownAnswer → ℕ
+knownCode (known.Known b) = answered (bit b)
+knownCode (known.Refused r) = refusalCode r
+
+-- how much was written, or why nothing was
+abbrev pub writtenCode : Written → ℕ
+writtenCode (written.Wrote n) = answered n
+writtenCode (written.Refused r) = refusalCode r
 
 -- the bytes, or the place of the faulty line, are small enough for the code
-abbrev pub Small : Outcome → Type 0
-Small (outcomes.Bytes n) = n ≤ listingRoom
-Small (outcomes.Refused r) = Placed r
-Small outcomes.TooMany = Unit {0}
-Small outcomes.TooShort = Unit {0}
+abbrev pub Small : Written → Type 0
+Small (written.Wrote n) = n ≤ listingRoom
+Small (written.Refused r) = Placed r
 
 abbrev pub originNumber : Origin → ℕ
 originNumber Tatsam = 0
@@ -94,9 +99,9 @@ sourceNumber Kosha = 1
 sourceNumber Heuristic = 2
 sourceNumber Unknown = 3
 
--- the origin in bits 4 and 5, the source in bits 6 and 7
+-- the value of a decision: the origin in bits 0 and 1, the source in bits 2 and 3
 abbrev pub originCode : DecisionAnswer → ℕ
-originCode (decisions.Decided d) = 16 * originNumber (d .origin) + 64 * sourceNumber (d .source)
+originCode (decisions.Decided d) = answered (originNumber (d .origin) + 4 * sourceNumber (d .source))
 originCode (decisions.Refused r) = refusalCode r
 
 -- how surely the origin is known; 0.0 for a refused word or sheet

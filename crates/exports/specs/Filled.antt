@@ -1,11 +1,12 @@
 -- What the exported functions on decompositions and root candidates store in a lent buffer, and what they hand back: the code of a
--- refusal, 8 for a buffer that is too short, or a multiple of 16. Assumes nothing.
+-- refusal, 8 for a buffer that is too short, or an answer's value. Assumes nothing.
 use Prim.Native.Nat.{ℕ, zero, suc, _+_, _*_, _/_, _%_}
 use mathlib.Core.Bool.{Bool, true, false}
 use mathlib.Core.List.{List, [], _∷_, _++_}
 use lib.ListN.{length, drop, getD}
 use lib.Dec.{ltb}
 use Rattle.runs.specs.Runs.{pick}
+use Rattle.refusals.specs.declared.Refusal.the-variants.{OutputTooShort}
 use Rattle.sheet.specs.Inputs.{inputsOf}
 use Rattle.sheet.specs.declared.inputs.Inputs.{Inputs}
 use Rattle.sheet.specs.declared.inputs.Inputs.the-variants as inputs
@@ -36,7 +37,7 @@ candidateBytes c = partsBytes (c .parts) (originNumber (c .origin)) (bit (c .«k
 -- the bytes at the front of the buffer, or 8
 abbrev pub stored : ℕ → List ℕ → List ℕ → Filled
 stored code bytes out =
-    pick (ltb (length out) filledBytes) (record { code = 8; buffer = out }) (record { code = code; buffer = bytes ++ drop filledBytes out })
+    pick (ltb (length out) filledBytes) (record { code = refusalCode OutputTooShort; buffer = out }) (record { code = code; buffer = bytes ++ drop filledBytes out })
 
 abbrev pub decomposeIf : Inputs → Morpheme → List ℕ → Filled
 decomposeIf inputs.Accepted m out = stored 0 (morphemeBytes m) out

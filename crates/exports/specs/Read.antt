@@ -15,36 +15,36 @@ use Rattle.decomposition.specs.declared.Parts.{Parts}
 use Rattle.decomposition.specs.declared.Morpheme.{Morpheme}
 use Rattle.roots.specs.declared.RootCandidate.{RootCandidate}
 
--- the lowest four bits: document 01's number of a refusal, or 0 or 15
+-- the lowest byte: the number of a refusal, 0 for an answer
 abbrev pub numberOf : ℕ → ℕ
-numberOf code = code % 16
+numberOf code = code % 256
 
--- what stands above them: the first byte of the faulty line, for 5 and 6; how many rows or bytes there are, for 0
-abbrev pub startOf : ℕ → ℕ
-startOf code = code / 16
+-- what stands above it: the place that comes with a refusal, or the answer's value
+abbrev pub valueOf : ℕ → ℕ
+valueOf code = code / 256
 
-abbrev pub countOf : ℕ → ℕ
-countOf code = code / 16
+-- the parts of a form's value
+abbrev pub foundOf : ℕ → ℕ
+foundOf code = valueOf code % 2
 
--- the parts of a form's code
 abbrev pub negativeOf : ℕ → ℕ
-negativeOf code = code / 16 % 2
+negativeOf code = valueOf code / 2 % 2
 
 abbrev pub mainEndOf : ℕ → ℕ
-mainEndOf code = code / 32 % 256
+mainEndOf code = valueOf code / 4 % 256
 
 abbrev pub lemmaLenOf : ℕ → ℕ
-lemmaLenOf code = code / 8192 % 256
+lemmaLenOf code = valueOf code / 1024 % 256
 
 abbrev pub lemmaAtOf : ℕ → ℕ
-lemmaAtOf code = code / 2097152
+lemmaAtOf code = valueOf code / 262144
 
--- the parts of an origin's code
+-- the parts of an origin's value
 abbrev pub originOf : ℕ → ℕ
-originOf code = code / 16 % 4
+originOf code = valueOf code % 4
 
 abbrev pub sourceOf : ℕ → ℕ
-sourceOf code = code / 64 % 4
+sourceOf code = valueOf code / 4 % 4
 
 -- the kind of each number
 abbrev pub kindAt : ℕ → AffixKind

@@ -10,8 +10,9 @@ use Rattle.ranking.specs.declared.Segment.{Segment}
 use Rattle.ranking.specs.declared.Reading.{Reading}
 use Rattle.analysis.specs.declared.entry.Said.{Said}
 use Rattle.analysis.specs.declared.entry.Said.the-variants as said
-use Rattle.analysis.specs.Answers.{saidOf, rowsGiven, saidNumbers}
-use Rattle.exports.specs.Codes.{coded}
+use Rattle.analysis.specs.Answers.{saidOf, rowsGiven}
+use Rattle.refusals.specs.declared.Refusal.the-variants.{OutputTooShort}
+use Rattle.exports.specs.Codes.{answered, refusalCode}
 
 -- what is handed back, and the buffer's later contents
 pub record Filled : Type 0 where
@@ -23,12 +24,12 @@ unfoldable pub each : {A : Type 0} → (A → List ℕ) → List A → List ℕ
 each bytes [] = []
 each bytes (x ∷ xs) = bytes x ++ each bytes xs
 
--- rows of `width` bytes each at the front of the buffer and 16 times their number; or 8, where they do not fit in
+-- rows of `width` bytes each at the front of the buffer, and their number; or 8, where they do not fit in
 abbrev pub rowsFilled : {A : Type 0} → ℕ → (A → List ℕ) → List A → List ℕ → Filled
 rowsFilled width bytes rows out =
     pick (ltb (length out) (width * length rows))
-    (record { code = 8; buffer = out })
-    (record { code = 16 * length rows; buffer = each bytes rows ++ drop (width * length rows) out })
+    (record { code = refusalCode OutputTooShort; buffer = out })
+    (record { code = answered (length rows); buffer = each bytes rows ++ drop (width * length rows) out })
 
 -- the n numbers of xs from the i-th on
 abbrev pub cells : ℕ → ℕ → List ℕ → List ℕ
@@ -69,8 +70,7 @@ readingWidth = 18
 
 abbrev pub readingsIf : Said → List Reading → List ℕ → Filled
 readingsIf said.Listed rows out = rowsFilled readingWidth readingBytes rows out
-readingsIf (said.Refused r) rows out = record { code = coded (saidNumbers (said.Refused r)); buffer = out }
-readingsIf said.TooMany rows out = record { code = coded (saidNumbers said.TooMany); buffer = out }
+readingsIf (said.Refused r) rows out = record { code = refusalCode r; buffer = out }
 
 -- what `yunthirel_readings` does
 unfoldable pub readingsFilled : List ℕ → List ℕ → List ℕ → Filled

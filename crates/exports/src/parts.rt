@@ -5,6 +5,7 @@ use bytes::copy;
 use decomposition::Morpheme;
 use decomposition::Parts;
 use decomposition::entries::decompose;
+use refusals::Refusal;
 use roots::RootCandidate;
 use roots::Roots;
 use roots::entries::lookup_root_candidates;
@@ -106,7 +107,7 @@ fn put_candidates(list: Roots, n: usize, out: &mut [u8])
     }
 }
 
-// The list, at the front of the buffer, and 16 times the number of its rows; 8 where the buffer is too short.
+// The list, at the front of the buffer, and the number of its rows; 8 where the buffer is too short.
 fn put_roots(list: Roots, out: &mut [u8]) -> u64
     requires { ⌜ list .count ≤ rootLimit ⌝ }
     ensures { λ r. ⌜ (r ≡ rowsFilled candidateWidth candidateBytes (rowsOf list) (now (out .entry)) .code)
@@ -114,15 +115,14 @@ fn put_roots(list: Roots, out: &mut [u8]) -> u64
 {
     let n = list.count;
     if out.len() < 33 * n {
-        return 8;
+        return refusal_code(Refusal::OutputTooShort);
     }
     put_candidates(list, n, out);
-    16 * (n as u64)
+    256 * (n as u64)
 }
 
-// The word's root candidates in rank order, 33 bytes each, at the front of the buffer, and 16 times their number. Where nothing is
-// stored, and `out` is as it was: 8 for a buffer with less than 33 bytes for each, else the refusal, as `refusal_code` gives it. 528
-// bytes are always enough.
+// The word's root candidates in rank order, 33 bytes each, at the front of the buffer, and their number. Where nothing is stored, and
+// `out` is as it was: the refusal, 8 for a buffer with less than 33 bytes for each. 528 bytes are always enough.
 #[no_mangle]
 pub extern "C" fn yunthirel_candidates(word: &[u8], sheet: &[u8], out: &mut [u8]) -> u64
     ensures { λ r. ⌜ (r ≡ candidatesFilled (now (word .entry)) (now (sheet .entry)) (now (out .entry)) .code)
@@ -142,7 +142,7 @@ fn put_morpheme(m: Morpheme, out: &mut [u8]) -> u64
     ensures { λ r. ⌜ (r ≡ stored 0 (morphemeBytes m) (now (out .entry)) .code) × (now (out .exit) ≡ stored 0 (morphemeBytes m) (now (out .entry)) .buffer) ⌝ }
 {
     if out.len() < 33 {
-        return 8;
+        return refusal_code(Refusal::OutputTooShort);
     }
     let p = m.parts;
     let o = m.origin;

@@ -7,6 +7,7 @@ use bytes::copy;
 use ranking::AffixKind;
 use ranking::Listing;
 use ranking::Reading;
+use refusals::Refusal;
 ghost use mathlib.Core.Path.{_≡_};
 ghost use mathlib.Core.List.{_++_};
 ghost use Prim.Native.Nat.{_*_, _/_, _%_, _≤_};
@@ -90,7 +91,7 @@ fn put_rows(list: Listing, n: usize, out: &mut [u8])
     }
 }
 
-// The list, at the front of the buffer, and 16 times the number of its rows; 8 where the buffer is too short.
+// The list, at the front of the buffer, and the number of its rows; 8 where the buffer is too short.
 fn put_list(list: Listing, out: &mut [u8]) -> u64
     requires { ⌜ list .count ≡ length (rowsOf list) ⌝ }
     ensures { λ r. ⌜ (r ≡ rowsFilled readingWidth readingBytes (rowsOf list) (now (out .entry)) .code)
@@ -98,15 +99,14 @@ fn put_list(list: Listing, out: &mut [u8]) -> u64
 {
     let n = list.count;
     if out.len() < 18 * n {
-        return 8;
+        return refusal_code(Refusal::OutputTooShort);
     }
     put_rows(list, n, out);
-    16 * (n as u64)
+    256 * (n as u64)
 }
 
-// The word's readings in rank order, 18 bytes each, at the front of the buffer, and 16 times their number. Where nothing is stored,
-// and `out` is as it was: 8 for a buffer with less than 18 bytes for each, 7 for more than 64 readings, else the refusal, as
-// `refusal_code` gives it. 1,152 bytes are always enough.
+// The word's readings in rank order, 18 bytes each, at the front of the buffer, and their number. Where nothing is stored, and `out` is
+// as it was: the refusal, 8 for a buffer with less than 18 bytes for each. 1,152 bytes are always enough.
 #[no_mangle]
 pub extern "C" fn yunthirel_readings(word: &[u8], sheet: &[u8], out: &mut [u8]) -> u64
     ensures { λ r. ⌜ (r ≡ readingsFilled (now (word .entry)) (now (sheet .entry)) (now (out .entry)) .code)
@@ -117,7 +117,6 @@ pub extern "C" fn yunthirel_readings(word: &[u8], sheet: &[u8], out: &mut [u8]) 
     let list = analysis.list;
     match said {
         Said::Refused(refusal) => refusal_code(refusal),
-        Said::TooMany => 7,
         Said::Listed => put_list(list, out),
     }
 }

@@ -1,10 +1,10 @@
 -- A list written over the front of another, element by element. Assumes nothing.
-use Prim.Native.Nat.{ℕ, zero, suc, _-_, _≤_, _<_}
+use Prim.Native.Nat.{ℕ, zero, suc, _≤_, _<_}
 use native.Mathlib.Omega.{arith}
 use native.Mathlib.Nat.{not-suc-le-zero, le-of-suc-le-suc}
 use mathlib.Core.Path.{_≡_, refl, ap, _∙_}
 use mathlib.Core.List.{List, [], _∷_, _++_}
-use lib.ListN.{length, take, drop, getD, set, length-append, length-drop}
+use lib.ListN.{length, take, drop, getD, set}
 
 module _ {A : Type 0} where
   -- the first i elements of xs, and then those of ys
@@ -31,9 +31,3 @@ module _ {A : Type 0} where
   untouched (x ∷ xs) ys (suc i) h e =
       let z : _≡_ {A = ℕ} (suc (length (take i xs))) 0 = ap (length {A = A}) e in
       absurd (omega arith)
-
-  -- a list written whole over the front of one that is no shorter
-  pub over-length : (xs ys : List A) → length xs ≤ length ys → length (xs ++ drop (length xs) ys) ≡ length ys
-  over-length xs ys h =
-      let z : length (drop (length xs) ys) ≡ length ys - length xs = length-drop (length xs) ys in
-      length-append xs (drop (length xs) ys) ∙ omega arith

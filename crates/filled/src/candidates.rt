@@ -1,30 +1,24 @@
 // The entry that fills a lent slice of root candidates: the list of `lookup_root_candidates`, copied; the elements past it are left.
+use refusals::Refusal;
+use refusals::Written;
 use roots::RootCandidate;
 use roots::Roots;
 use roots::entries::lookup_root_candidates;
 use sheet::inputs::Inputs;
-use sheet::inputs::Refusal;
 ghost use mathlib.Core.Path.{_≡_};
 ghost use mathlib.Core.List.{_++_};
 ghost use Prim.Native.Nat.{_≤_, _<_};
 ghost use lib.ListN.{length, take, drop, getD};
 ghost use Rattle.roots.specs.Lists.{rootLimit, rowsOf, noCandidate};
 ghost use Rattle.roots.specs.Answers.{rootsFor};
-ghost use Rattle.filled.specs.FilledRoots.{rootsFilled, rootsWritten, rootsOutput};
-
-// What is said beside the slice: how many candidates were written; word or sheet is refused; the slice is shorter than the list.
-// `rootsNumbers` gives document 01's number of each.
-pub enum FilledRoots {
-    Wrote(usize),
-    Refused(Refusal),
-    TooShort,
-}
+ghost use Rattle.filled.specs.Filled.{written};
+ghost use Rattle.filled.specs.FilledRoots.{rootsFilled, rootsOutput};
 
 // What is to be written, the first `count` rows of the list, and what is said of it.
 struct Plan {
     list: Roots,
     count: usize,
-    filled: FilledRoots,
+    filled: Written,
 }
 
 // How many rows a list has: as many as it counts, of the 16 that there are.
@@ -40,7 +34,7 @@ fn row_count(list: Roots) -> usize
 // What is to be written into a slice of so many elements: nothing where anything is refused.
 fn planned(word: &[u8], sheet: &[u8], room: usize) -> Plan
     ensures { λ r. ⌜ (r .filled ≡ rootsFilled (now (word .entry)) (now (sheet .entry)) room)
-        × (take (r .count) (r .list .rows) ≡ rootsWritten (r .filled) (rootsFor (now (word .entry)) (now (sheet .entry))))
+        × (take (r .count) (r .list .rows) ≡ written (r .filled) (rootsFor (now (word .entry)) (now (sheet .entry))))
         × (r .count ≤ room) × (r .count ≤ rootLimit) ⌝ }
 {
     let answer = lookup_root_candidates(word, sheet);
@@ -51,20 +45,20 @@ fn planned(word: &[u8], sheet: &[u8], room: usize) -> Plan
         Inputs::Refused(refusal) => Plan {
             list,
             count: 0,
-            filled: FilledRoots::Refused(refusal),
+            filled: Written::Refused(refusal),
         },
         Inputs::Accepted => {
             if room < n {
                 return Plan {
                     list,
                     count: 0,
-                    filled: FilledRoots::TooShort,
+                    filled: Written::Refused(Refusal::OutputTooShort),
                 };
             }
             Plan {
                 list,
                 count: n,
-                filled: FilledRoots::Wrote(n),
+                filled: Written::Wrote(n),
             }
         }
     }
@@ -93,7 +87,7 @@ fn copy_rows(out: &mut [RootCandidate], list: Roots, n: usize)
 
 // The root candidates of the word, written to the front of the slice in rank order; the elements past them are left, and all of them
 // where anything is refused. 16 elements are always enough.
-pub fn fill_candidates(word: &[u8], sheet: &[u8], out: &mut [RootCandidate]) -> FilledRoots
+pub fn fill_candidates(word: &[u8], sheet: &[u8], out: &mut [RootCandidate]) -> Written
     ensures { λ r. ⌜ (r ≡ rootsFilled (now (word .entry)) (now (sheet .entry)) (length (now (out .entry))))
         × (now (out .exit) ≡ rootsOutput (now (word .entry)) (now (sheet .entry)) (now (out .entry))) ⌝ }
 {

@@ -3,7 +3,8 @@ use analysis::entry::Said;
 use analysis::entry::analyze_affixes;
 use ranking::Listing;
 use ranking::Reading;
-use sheet::inputs::Refusal;
+use refusals::Refusal;
+use refusals::Written;
 ghost use mathlib.Core.Path.{_≡_};
 ghost use mathlib.Core.List.{_++_};
 ghost use Prim.Native.Nat.{_≤_, _<_};
@@ -15,20 +16,11 @@ ghost use Rattle.filled.specs.Filled.{filledOf, written, outputOf};
 
 pub mod candidates;
 
-// What is said beside the slice: how many readings were written; word or sheet is refused; there are more than 64 readings; the slice
-// is shorter than the list. `filledNumbers` gives document 01's number of each.
-pub enum Filled {
-    Wrote(usize),
-    Refused(Refusal),
-    TooMany,
-    TooShort,
-}
-
 // What is to be written, the first `count` rows of the list, and what is said of it.
 struct Plan {
     list: Listing,
     count: usize,
-    filled: Filled,
+    filled: Written,
 }
 
 // How many rows a list has: as many as it counts, of the 64 that there are.
@@ -55,25 +47,20 @@ fn planned(word: &[u8], sheet: &[u8], room: usize) -> Plan
         Said::Refused(refusal) => Plan {
             list,
             count: 0,
-            filled: Filled::Refused(refusal),
-        },
-        Said::TooMany => Plan {
-            list,
-            count: 0,
-            filled: Filled::TooMany,
+            filled: Written::Refused(refusal),
         },
         Said::Listed => {
             if room < n {
                 return Plan {
                     list,
                     count: 0,
-                    filled: Filled::TooShort,
+                    filled: Written::Refused(Refusal::OutputTooShort),
                 };
             }
             Plan {
                 list,
                 count: n,
-                filled: Filled::Wrote(n),
+                filled: Written::Wrote(n),
             }
         }
     }
@@ -102,7 +89,7 @@ fn copy_rows(out: &mut [Reading], list: Listing, n: usize)
 
 // The readings of the word, written to the front of the slice in rank order; the elements past them are left, and all of them where
 // anything is refused.
-pub fn fill_readings(word: &[u8], sheet: &[u8], out: &mut [Reading]) -> Filled
+pub fn fill_readings(word: &[u8], sheet: &[u8], out: &mut [Reading]) -> Written
     ensures { λ r. ⌜ (r ≡ filledOf (now (word .entry)) (now (sheet .entry)) (length (now (out .entry))))
         × (now (out .exit) ≡ outputOf (now (word .entry)) (now (sheet .entry)) (now (out .entry))) ⌝ }
 {

@@ -11,27 +11,28 @@ use lib.Seq.{take-all, take-length, take-at}
 use lib.Dec.{leb}
 use borrow.Author.Tests.{le-leb, lt-leb}
 use Rattle.bytes.specs.Bytes.{slice, indexOf}
-use Rattle.listing.specs.Placed.{Answer, Whole}
-use Rattle.listing.specs.Texts.{refusedText, listingRoom}
+use Rattle.writing.specs.Placed.{Answer, Whole}
+use Rattle.writing.specs.Refused.{refusedText}
+use Rattle.listing.specs.Texts.{listingRoom}
 use Rattle.listing.specs.Printed.{readingsText, inputLimit, printed}
-use Rattle.listing.specs.declared.Written.{Written}
-use Rattle.listing.specs.declared.Written.the-variants.{Bytes, TooShort}
+use Rattle.refusals.specs.Refusals.{numbersOf}
+use Rattle.refusals.specs.declared.Refusal.{Refusal}
+use Rattle.refusals.specs.declared.Refusal.the-variants.{SheetTooLong}
+use Rattle.refusals.specs.declared.Written.{Written}
+use Rattle.refusals.specs.declared.Written.the-variants as written
 
 -- the same text, said otherwise
 pub answer-as : {t u old new : List ℕ} {r : Written} → t ≡ u → Answer t old new r → length t ≤ listingRoom → Answer u old new r × (length u ≤ listingRoom)
 answer-as {old = old} {new = new} {r = r} e a l = subst (λ (x : List ℕ). Answer x old new r × (length x ≤ listingRoom)) e (a, l)
-
-pub answer-over : {t u old mid new : List ℕ} {r : Written} → t ≡ u → mid ≡ old → Answer t mid new r → Answer u old new r
-answer-over {u = u} {mid = mid} {new = new} {r = r} e q a = subst (λ (x : List ℕ). Answer u x new r) q (subst (λ (x : List ℕ). Answer x mid new r) e a)
 
 -- a buffer with room for the longest list is never too short
 module _ (text out new : List ℕ) (r : Written) (room : listingRoom ≤ length out) (a : Answer text out new r) (short : length text ≤ listingRoom) where
   fits : leb (length text) (length out) ≡ true
   fits = le-leb (length text) (length out) (omega arith)
 
-  pub whole : (n : ℕ) → r ≡ Bytes n → Whole text out new n
+  pub whole : (n : ℕ) → r ≡ written.Wrote n → Whole text out new n
   whole n g =
-      let b : r ≡ Bytes (length text) = rw fits at (a .given) in
+      let b : r ≡ written.Wrote (length text) = rw fits at (a .given) in
       let f : new ≡ text ++ drop (length text) out = rw fits at (a .left) in
       let e : n ≡ length text = cc in
       let all = f ∙ ap (λ (k : ℕ). text ++ drop k out) (sym e) in
@@ -43,12 +44,12 @@ module _ (text out new : List ℕ) (r : Written) (room : listingRoom ≤ length 
         counted = e ∙ ap length (sym (ap (take n) all ∙ take-at text (drop n out) n (sym e)));
       }
 
-  pub never-short : r ≡ TooShort → ⊥
-  never-short g = let b : r ≡ Bytes (length text) = rw fits at (a .given) in let z : _≡_ {A = ℕ} 0 1 = cc in omega arith
+  pub never-short : (q : Refusal) → r ≡ written.Refused q → ⊥
+  never-short q g = let b : r ≡ written.Wrote (length text) = rw fits at (a .given) in let z : _≡_ {A = ℕ} 0 1 = cc in omega arith
 
 -- the program's input: too long, or a word and a sheet
 module _ (input : List ℕ) where
-  pub printed-long : inputLimit < length input → refusedText (4 ∷ []) ≡ printed input
+  pub printed-long : inputLimit < length input → refusedText (numbersOf SheetTooLong) ≡ printed input
   unfolding printed
   printed-long h = rw (lt-leb _ _ h)
 

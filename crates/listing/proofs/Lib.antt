@@ -1,5 +1,3 @@
-pub mod Puts
-pub mod Digits
 pub mod Labels
 pub mod Parted
 pub mod Worked

@@ -2,29 +2,25 @@
 use Prim.Native.Nat.{ℕ}
 use mathlib.Core.Path.{_≡_, refl}
 use mathlib.Core.List.{List}
-use Rattle.sheet.specs.Inputs.{numbersOf}
-use Rattle.sheet.specs.declared.inputs.Refusal.{Refusal}
-use Rattle.sheet.specs.declared.inputs.Refusal.the-variants.{WordTooLong, WordNotUtf8, WordForbidden, SheetTooLong, SheetNoForm, SheetNotAbove}
+use lib.ListN.{length}
+use lib.Dec.{ltb}
+use Rattle.refusals.specs.Refusals.{writtenNumbers, causeIf, lowestNumbersOf, orElse}
+use Rattle.refusals.specs.declared.Refusal.the-variants.{OutputTooShort}
+use Rattle.refusals.proofs.Outputs.{room-lowest}
 use Rattle.analysis.specs.Answers.{saidOf, rowsGiven, saidNumbers}
 use Rattle.analysis.specs.declared.entry.Said.{Said}
-use Rattle.analysis.specs.declared.entry.Said.the-variants.{Listed, Refused, TooMany}
+use Rattle.analysis.specs.declared.entry.Said.the-variants.{Listed, Refused}
+use Rattle.writing.specs.Placed.{writtenOf}
 use Rattle.listing.specs.Texts.{listingText}
-use Rattle.listing.specs.Placed.{writtenOf}
-use Rattle.listing.specs.Printed.{outcomeBy, outcomeOf, outcomeNumbers, shortNumbers, elseNumbers}
-use Rattle.listing.specs.declared.Written.{Written}
-use Rattle.listing.specs.declared.Written.the-variants.{Bytes, TooShort}
+use Rattle.listing.specs.Printed.{outcomeBy, outcomeOf}
 
-pub outcome-lowest : (w s out : List ℕ) → outcomeNumbers (outcomeOf w s out) ≡ elseNumbers (saidNumbers (saidOf w s)) (shortNumbers (writtenOf (listingText w (rowsGiven w s)) out))
+pub outcome-lowest : (w s out : List ℕ)
+    → writtenNumbers (outcomeOf w s out)
+    ≡ orElse (saidNumbers (saidOf w s)) (lowestNumbersOf (causeIf (ltb (length out) (length (listingText w (rowsGiven w s)))) OutputTooShort))
 unfolding outcomeOf
-outcome-lowest w s out = by (saidOf w s) (writtenOf (listingText w (rowsGiven w s)) out)
+outcome-lowest w s out = by (saidOf w s)
   where
-    by : (a : Said) (x : Written) → outcomeNumbers (outcomeBy a x) ≡ elseNumbers (saidNumbers a) (shortNumbers x)
-    by Listed (Bytes n) = refl
-    by Listed TooShort = refl
-    by (Refused WordTooLong) x = refl
-    by (Refused WordNotUtf8) x = refl
-    by (Refused WordForbidden) x = refl
-    by (Refused SheetTooLong) x = refl
-    by (Refused (SheetNoForm at)) x = refl
-    by (Refused (SheetNotAbove at)) x = refl
-    by TooMany x = refl
+    by : (a : Said) → writtenNumbers (outcomeBy a (writtenOf (listingText w (rowsGiven w s)) out))
+        ≡ orElse (saidNumbers a) (lowestNumbersOf (causeIf (ltb (length out) (length (listingText w (rowsGiven w s)))) OutputTooShort))
+    by Listed = room-lowest (length (listingText w (rowsGiven w s))) (length out)
+    by (Refused r) = refl

@@ -9,9 +9,9 @@ use lib.ListN.{length, take, drop, getD, length-map, List·getD-map, drop-of-len
 use lib.Seq.{drop-cons, getD-take, length-take-le, take-all}
 use lib.Dec.{ltb}
 use borrow.Author.Tests.{ltb-true, ltb-false}
-use Rattle.listing.specs.Placed.{Wrote}
-use Rattle.listing.specs.Texts.{gap, parted, partedFrom}
-use Rattle.listing.proofs.Puts.{put-both, put-as, Upto, upto-more, upto-all}
+use Rattle.writing.specs.Placed.{Wrote}
+use Rattle.writing.specs.Refused.{gap, parted, partedFrom}
+use Rattle.writing.proofs.Puts.{put-both, put-as, Upto, upto-more, upto-all}
 
 module _ {A : Type 0} where
   -- a count that is larger than the list counts all of it

@@ -18,9 +18,9 @@ use Rattle.ranking.specs.declared.AffixKind.{AffixKind}
 use Rattle.ranking.specs.declared.AffixKind.the-variants.{Particle, CaseMarker, PluralMarker, Postposition, ComparisonMarker}
 use Rattle.ranking.specs.declared.Segment.{Segment}
 use Rattle.ranking.specs.declared.Reading.{Reading}
-use Rattle.listing.specs.Decimal.{digit, decimal}
-use Rattle.listing.specs.Texts.{gap, partedFrom, kindText, segmentText, labelText, prefixTexts, segmentTexts, rowText, rowTexts, listingText, refusedText, rowRoom, listingRoom}
-use Rattle.listing.proofs.Digits.{one-digit, more-digits}
+use Rattle.writing.specs.Refused.{refusedText}
+use Rattle.listing.specs.Texts.{kindText, segmentText, labelText, prefixTexts, segmentTexts, rowText, rowTexts, listingText, rowRoom, listingRoom}
+use Rattle.writing.proofs.Sizes.{parted-size, digit-size, count-size, number-size}
 
 -- a row of a table none of whose rows is longer than m, and what stands for one that is not there
 row-size : (rows : List (List ℕ)) (m : ℕ) → every (λ _ r. leb (length r) m) 0 rows ≡ true → (k : ℕ) → length (getD rows k []) ≤ m
@@ -52,20 +52,6 @@ segment-size s =
     let k = kind-size (s .kind) in
     simp length-append (omega arith)
 
-gap-size : (i : ℕ) → length (gap i) ≤ 1
-gap-size zero = omega arith
-gap-size (suc i) = omega arith
-
-parted-size : {A : Type 0} (f : A → List ℕ) (m : ℕ) → ((x : A) → length (f x) ≤ m) → (i : ℕ) (xs : List A)
-    → length (partedFrom i (map f xs)) ≤ length xs * (m + 1)
-parted-size f m h i [] = omega arith
-parted-size f m h i (x ∷ xs) =
-    let g = gap-size i in
-    let t = h x in
-    let r = parted-size f m h (suc i) xs in
-    let z = suc-mul (length xs) (m + 1) in
-    simp length-append (omega arith)
-
 part-size : (w : List ℕ) (from to : ℕ) → length (part w from to) ≤ length w
 unfolding part
 part-size w from to = by (leb from to && leb to (length w))
@@ -73,27 +59,6 @@ part-size w from to = by (leb from to && leb to (length w))
     by : (b : Bool) → length (pick b (take (to - from) (drop from w)) []) ≤ length w
     by true = simp (length-take, length-drop) (omega arith)
     by false = omega arith
-
--- a number below ten times b has at most one digit more than those below b
-more-size : (j b : ℕ) → ((n : ℕ) → n < b → length (decimal n) ≤ suc j) → (n : ℕ) → n < 10 * b → length (decimal n) ≤ suc (suc j)
-more-size j b h n l = by (ltb n 10) refl
-  where
-    by : (t : Bool) → ltb n 10 ≡ t → length (decimal n) ≤ suc (suc j)
-    by true e = let z = ap length (one-digit n (ltb-true _ _ e)) in omega arith
-    by false e =
-        let z = ap length (more-digits n (ltb-false _ _ e)) ∙ length-append (decimal (n / 10)) (digit (n % 10) ∷ []) in
-        let r = h (n / 10) (omega arith) in
-        omega arith
-
-pub digit-size : (n : ℕ) → n < 10 → length (decimal n) ≤ 1
-digit-size n h = let z = ap length (one-digit n h) in omega arith
-
-pub count-size : (n : ℕ) → n < 100 → length (decimal n) ≤ 2
-count-size n h = more-size 0 10 digit-size n (omega arith)
-
-pub number-size : (n : ℕ) → n < 100000 → length (decimal n) ≤ 5
-number-size n h =
-    more-size 3 10000 (λ n h. more-size 2 1000 (λ n h. more-size 1 100 count-size n (omega arith)) n (omega arith)) n (omega arith)
 
 pub reading-size : (w : List ℕ) (r : Reading) → length w ≤ 192 → length (r .prefixes) ≡ 2 → length (r .segments) ≡ 4 → r .score < 65536
     → length (rowText w r) ≤ 554

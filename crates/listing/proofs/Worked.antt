@@ -8,8 +8,9 @@ use Rattle.ranking.specs.Parts.{part}
 use Rattle.ranking.specs.declared.AffixKind.the-variants.{Particle, CaseMarker, Postposition}
 use Rattle.ranking.specs.declared.Segment.{Segment}
 use Rattle.ranking.specs.declared.Reading.{Reading}
-use Rattle.listing.specs.Decimal.{digitsIn, decimal}
-use Rattle.listing.specs.Texts.{segmentText, rowText, listingText, refusedText}
+use Rattle.writing.specs.Decimal.{digitsIn, decimal}
+use Rattle.writing.specs.Refused.{refusedText}
+use Rattle.listing.specs.Texts.{segmentText, rowText, listingText}
 
 -- घरले
 abbrev word : List ℕ

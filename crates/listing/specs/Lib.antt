@@ -1,5 +1,3 @@
-pub mod Decimal
-pub mod Placed
 pub mod Texts
 pub mod Labels
 pub mod Printed

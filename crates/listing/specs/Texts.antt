@@ -1,5 +1,5 @@
--- The text of a list of readings and of a refusal (document 01, "Readings worked by hand"). Assumes nothing.
-use Prim.Native.Nat.{ℕ, zero, suc}
+-- The text of a list of readings (document 01, "Readings worked by hand"). Assumes nothing.
+use Prim.Native.Nat.{ℕ}
 use mathlib.Core.List.{List, [], _∷_, _++_, map}
 use lib.ListN.{length, take, getD}
 use Rattle.tables.specs.Rows.{prefixLabels}
@@ -9,22 +9,8 @@ use Rattle.ranking.specs.declared.AffixKind.{AffixKind}
 use Rattle.ranking.specs.declared.AffixKind.the-variants.{Particle, CaseMarker, PluralMarker, Postposition, ComparisonMarker}
 use Rattle.ranking.specs.declared.Segment.{Segment}
 use Rattle.ranking.specs.declared.Reading.{Reading}
-use Rattle.listing.specs.Decimal.{decimal}
-use Rattle.listing.specs.declared.Refused.{Refused}
-use Rattle.listing.specs.declared.Refused.the-variants.{Number, Line}
-
--- a space before every text but the first
-abbrev pub gap : ℕ → List ℕ
-gap zero = []
-gap (suc i) = 0x20 ∷ []
-
-abbrev pub partedFrom : ℕ → List (List ℕ) → List ℕ
-partedFrom i [] = []
-partedFrom i (t ∷ ts) = gap i ++ (t ++ partedFrom (suc i) ts)
-
--- texts parted by one space
-abbrev pub parted : List (List ℕ) → List ℕ
-parted ts = partedFrom 0 ts
+use Rattle.writing.specs.Decimal.{decimal}
+use Rattle.writing.specs.Refused.{parted}
 
 -- the name of a kind
 abbrev pub kindText : AffixKind → List ℕ
@@ -80,18 +66,6 @@ listingText w rs =
     ++ (decimal (length rs)
     ++ ((0x29 ∷ 0x0A ∷ [])  -- ) and 0A
     ++ rowTexts w rs))
-
--- the numbers that a refusal prints
-abbrev pub refusedNumbers : Refused → List ℕ
-refusedNumbers (Number n) = n ∷ []
-refusedNumbers (Line n start) = n ∷ start ∷ []
-
--- (refused N) or (refused N START), and 0A
-unfoldable pub refusedText : List ℕ → List ℕ
-refusedText numbers =
-    (0x28 ∷ 0x72 ∷ 0x65 ∷ 0x66 ∷ 0x75 ∷ 0x73 ∷ 0x65 ∷ 0x64 ∷ 0x20 ∷ [])  -- (refused
-    ++ (parted (map decimal numbers)
-    ++ (0x29 ∷ 0x0A ∷ []))  -- ) and 0A
 
 -- how long a row and a list can be, of a word that is not too long
 abbrev pub rowRoom : ℕ

@@ -1,14 +1,13 @@
 // The rows of a listing, put piece by piece. The tables are lent down: the labels of the prefixes with their starts, and the 25 texts
 // with theirs.
-use crate::Refused;
-use crate::pieces::put;
-use crate::pieces::put_decimal;
 use ranking::AffixKind;
 use ranking::Listing;
 use ranking::Reading;
 use ranking::Segment;
 use ranking::root_of;
 use ranking::stem_of;
+use writing::put;
+use writing::put_decimal;
 ghost use mathlib.Core.Path.{_≡_};
 ghost use mathlib.Core.List.{[], _∷_};
 ghost use Prim.Native.Nat.{_*_, _≤_, min};
@@ -17,8 +16,9 @@ ghost use Rattle.text.specs.Word.{wordLimit};
 ghost use Rattle.tables.specs.Tables.{Cuts, Laid, affixes};
 ghost use Rattle.tables.specs.Rows.{prefixLabels};
 ghost use Rattle.ranking.specs.Lists.{rowsOf};
-ghost use Rattle.listing.specs.Placed.{Wrote};
-ghost use Rattle.listing.specs.Texts.{gap, parted, kindText, segmentText, prefixTexts, segmentTexts, rowText, rowTexts, listingText, refusedNumbers, refusedText, rowRoom, listingRoom};
+ghost use Rattle.writing.specs.Placed.{Wrote};
+ghost use Rattle.writing.specs.Refused.{gap, parted, refusedText};
+ghost use Rattle.listing.specs.Texts.{kindText, segmentText, prefixTexts, segmentTexts, rowText, rowTexts, listingText, rowRoom, listingRoom};
 ghost use Rattle.listing.specs.Labels.{labelAt};
 
 fn wide8(x: u8) -> usize
@@ -186,23 +186,4 @@ pub(crate) fn put_listing(out: &mut [u8], at: usize, word: &[u8], list: Listing)
     let b = put_decimal(out, a, n);
     let c = put(out, b, b")\n");
     put_rows(out, c, word, &labels, &starts, &texts, &cuts, list, n)
-}
-
-// Puts a refusal: its number, and where a line is at fault the first byte of that line.
-pub(crate) fn put_refused(out: &mut [u8], at: usize, refused: Refused) -> usize
-    ensures { λ r. ⌜ Wrote (now (out .entry)) (now (out .exit)) at r (refusedText (refusedNumbers refused)) ⌝ }
-{
-    let a = put(out, at, b"(refused ");
-    match refused {
-        Refused::Number(n) => {
-            let b = put_decimal(out, a, n);
-            put(out, b, b")\n")
-        }
-        Refused::Line(n, start) => {
-            let b = put_decimal(out, a, n);
-            let c = put(out, b, b" ");
-            let d = put_decimal(out, c, start);
-            put(out, d, b")\n")
-        }
-    }
 }

@@ -1,9 +1,9 @@
 // The same texts in a buffer of 65,536 bytes, which is always long enough: the length alone is given.
-use crate::Written;
 use crate::entry::print_answer;
 use crate::entry::print_readings;
+use refusals::Written;
 ghost use mathlib.Core.Path.{_≡_};
-ghost use Rattle.listing.specs.Placed.{Whole};
+ghost use Rattle.writing.specs.Placed.{Whole};
 ghost use Rattle.listing.specs.Printed.{readingsText, printed};
 
 // Writes the readings of the word at the front of `out`, or the line of the refusal, and gives how long that is.
@@ -12,8 +12,8 @@ pub fn readings_of(word: &[u8], sheet: &[u8], out: &mut [u8; 65536]) -> usize
 {
     let written = print_readings(word, sheet, out);
     match written {
-        Written::Bytes(n) => n,
-        Written::TooShort => 0,
+        Written::Wrote(n) => n,
+        Written::Refused(_) => 0,
     }
 }
 
@@ -23,7 +23,7 @@ pub fn answer_of(input: &[u8], out: &mut [u8; 65536]) -> usize
 {
     let written = print_answer(input, out);
     match written {
-        Written::Bytes(size) => size,
-        Written::TooShort => 0,
+        Written::Wrote(size) => size,
+        Written::Refused(_) => 0,
     }
 }

@@ -15,7 +15,7 @@ use Rattle.sheet.proofs.Refusals.{accepted-each}
 use Rattle.sheet.specs.Inputs.{bySheet, byWordThen, inputsOf}
 use Rattle.sheet.specs.declared.check.SheetCheck.{SheetCheck}
 use Rattle.sheet.specs.declared.check.SheetCheck.the-variants as sheets
-use Rattle.sheet.specs.declared.inputs.Refusal.{Refusal}
+use Rattle.refusals.specs.declared.Refusal.{Refusal}
 use Rattle.sheet.specs.declared.inputs.Inputs.{Inputs}
 use Rattle.sheet.specs.declared.inputs.Inputs.the-variants as inputs
 use Rattle.lookup.specs.declared.lines.Checked.{Checked}

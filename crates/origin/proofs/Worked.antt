@@ -15,7 +15,7 @@ use Rattle.sheet.specs.Forms.{entryOf, written, isName, isKind, isMeant, isForm
 use Rattle.sheet.specs.Lines.{judged, sheetCheck}
 use Rattle.sheet.specs.Inputs.{inputsOf}
 use Rattle.sheet.specs.Replies.{reply}
-use Rattle.sheet.specs.declared.inputs.Refusal.the-variants.{WordNotUtf8, WordForbidden, SheetNoForm, SheetNotAbove}
+use Rattle.refusals.specs.declared.Refusal.the-variants.{WordNotUtf8, WordForbidden, SheetNoForm, SheetNotAbove}
 use Rattle.strips.specs.Suffix.{sheds, isLong, plain, shared, remainders}
 use Rattle.origin.specs.Marks.{containsOne, endsInOne, aagantukMarks, nukta, hasAagantukMarkers, tatsamMarks, hasTatsamMarkers, tadbhavEnds, hasTadbhavMarkers, heuristicOf}
 use Rattle.origin.specs.Decisions.{none, byMark, byStem, byWord, sure, decided, knownIn, knownBy, knownRest, knownUnder, knownStem, decisionOf}

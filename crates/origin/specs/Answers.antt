@@ -1,7 +1,8 @@
 -- What the entries of origin hand back for any word and any sheet (document 01, "What an entry hands back"). Assumes nothing.
 use Prim.Native.Nat.{ℕ}
 use mathlib.Core.List.{List, []}
-use Rattle.sheet.specs.Inputs.{inputsOf, numbersOf}
+use Rattle.refusals.specs.Refusals.{numbersOf}
+use Rattle.sheet.specs.Inputs.{inputsOf}
 use Rattle.sheet.specs.Replies.{reply}
 use Rattle.sheet.specs.declared.inputs.Inputs.{Inputs}
 use Rattle.sheet.specs.declared.inputs.Inputs.the-variants as inputs

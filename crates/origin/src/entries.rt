@@ -5,8 +5,8 @@ use crate::OriginDecision;
 use crate::classify_in;
 use lookup::lines::prepare;
 use lookup::starts::Start;
+use refusals::Refusal;
 use sheet::inputs::Inputs;
-use sheet::inputs::Refusal;
 use tables::origins::Origin;
 
 // The answer of `classify_with_provenance`.

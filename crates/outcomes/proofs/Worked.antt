@@ -28,7 +28,7 @@ use Rattle.decomposition.specs.Strips.{isWord, labelRow, leastRoot, isKept, lef
 use Rattle.decomposition.specs.Parts.{behindFront, decomposedOf, morphemeOf}
 use Rattle.decomposition.specs.Answers.{morphemeAnswer}
 use Rattle.bytes.specs.Bytes.{indexAfter, indexOf}
-use Rattle.listing.specs.Decimal.{digitsIn, decimal}
+use Rattle.writing.specs.Decimal.{digitsIn, decimal}
 use Rattle.listing.specs.Texts.{segmentText, rowText, listingText}
 use Rattle.listing.specs.Printed.{readingsText, printed}
 use Rattle.outcomes.specs.Words.{ghar, gharle, le, nihshulk, shulk, nir, nis, amanav, manav, a, asaphal, saphal, khairaheko, nakhairaheko, khai, nakhai, khanu, rahanu, gariraheko, gari, garnu, garanu, listing, gharkota, gharko, ta, ko}

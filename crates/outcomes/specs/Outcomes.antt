@@ -16,9 +16,9 @@ use Rattle.progressive.specs.declared.entry.Answer.{Answer}
 use Rattle.progressive.specs.declared.entry.Answer.the-variants as answers
 use Rattle.progressive.specs.Answers.{answerOf, answerNumbers, lemmaPart}
 use Rattle.analysis.specs.declared.entry.Said.{Said}
-use Rattle.analysis.specs.declared.entry.Said.the-variants.{Listed, Refused, TooMany}
+use Rattle.analysis.specs.declared.entry.Said.the-variants.{Listed, Refused}
 use Rattle.analysis.specs.Answers.{saidOf, rowsGiven, saidNumbers}
-use Rattle.sheet.specs.Inputs.{numbersOf}
+use Rattle.refusals.specs.Refusals.{numbersOf}
 use Rattle.sheet.specs.declared.inputs.Inputs.{Inputs}
 use Rattle.sheet.specs.declared.inputs.Inputs.the-variants as inputs
 use Rattle.decomposition.specs.declared.Parts.{Parts}
@@ -75,7 +75,6 @@ rowOf w r = record {
 abbrev pub listOf : List ℕ → Said → List Reading → Outcome
 listOf w Listed rs = list (map (rowOf w) rs)
 listOf w (Refused r) rs = refused (saidNumbers (Refused r))
-listOf w TooMany rs = refused (saidNumbers TooMany)
 
 -- what the analysis of a progressive form gives of the word w and the sheet s
 abbrev pub formOf : List ℕ → List ℕ → Answer → Outcome

@@ -12,7 +12,7 @@ use Rattle.sheet.specs.Forms.{entryOf, written, isName, isKind, isMeant, isForm
 use Rattle.sheet.specs.Lines.{judged, sheetCheck}
 use Rattle.sheet.specs.Inputs.{inputsOf}
 use Rattle.sheet.specs.Replies.{reply}
-use Rattle.sheet.specs.declared.inputs.Refusal.the-variants.{SheetNoForm}
+use Rattle.refusals.specs.declared.Refusal.the-variants.{SheetNoForm}
 use Rattle.lookup.specs.Search.{placeOf}
 use Rattle.progressive.specs.declared.entry.Answer.{Answer}
 use Rattle.progressive.specs.declared.entry.Answer.the-variants.{Refused, Given}

@@ -6,7 +6,7 @@ use native.Mathlib.Omega.{arith}
 use lib.ListN.{length, take, drop}
 use Rattle.sheet.specs.Inputs.{inputsOf, numbersGiven, lowestNumbers}
 use Rattle.sheet.specs.Replies.{reply}
-use Rattle.sheet.specs.declared.inputs.Refusal.{Refusal}
+use Rattle.refusals.specs.declared.Refusal.{Refusal}
 use Rattle.sheet.specs.declared.inputs.Inputs.{Inputs}
 use Rattle.sheet.specs.declared.inputs.Inputs.the-variants as inputs
 use Rattle.sheet.proofs.Refusals.{lowest}

@@ -3,7 +3,8 @@ use Prim.Native.Nat.{ℕ, _+_, _≤_}
 use mathlib.Core.Path.{_≡_}
 use mathlib.Core.List.{List, []}
 use lib.ListN.{length}
-use Rattle.sheet.specs.Inputs.{numbersOf, inputsOf, lowestNumbers}
+use Rattle.refusals.specs.Refusals.{numbersOf}
+use Rattle.sheet.specs.Inputs.{inputsOf, lowestNumbers}
 use Rattle.sheet.specs.Replies.{reply}
 use Rattle.sheet.specs.declared.inputs.Inputs.{Inputs}
 use Rattle.sheet.specs.declared.inputs.Inputs.the-variants as inputs

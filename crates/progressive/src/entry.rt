@@ -6,8 +6,8 @@ use crate::find::find_progressive;
 use crate::find::no_form;
 use lookup::lines::prepare;
 use lookup::starts::Start;
+use refusals::Refusal;
 use sheet::inputs::Inputs;
-use sheet::inputs::Refusal;
 
 // What the analysis gives: why word or sheet is refused, or what was found.
 pub enum Answer {

@@ -6,7 +6,8 @@ use mathlib.Core.Bool.{Bool, true, false}
 use mathlib.Core.List.{List, [], _∷_}
 use Rattle.sheet.specs.Replies.{reply}
 use Rattle.tables.specs.declared.origins.Origin.the-variants.{Deshaj}
-use Rattle.sheet.specs.Inputs.{inputsOf, numbersOf}
+use Rattle.refusals.specs.Refusals.{numbersOf}
+use Rattle.sheet.specs.Inputs.{inputsOf}
 use Rattle.sheet.specs.declared.inputs.Inputs.{Inputs}
 use Rattle.sheet.specs.declared.inputs.Inputs.the-variants as inputs
 use Rattle.decomposition.specs.Strips.{noFront}

@@ -57,10 +57,3 @@ sheetLimit = 65536
 -- what is said of the sheet s; no key is below the empty one, so the first line is above what stands before it
 unfoldable pub sheetCheck : List ℕ → SheetCheck
 sheetCheck s = pick (ltb sheetLimit (length s)) TooLong (judged s [] (startsOf s))
-
--- document 01's number of each answer, 0 for a sheet that is accepted
-abbrev pub sheetNumber : SheetCheck → ℕ
-sheetNumber Accepted = 0
-sheetNumber TooLong = 4
-sheetNumber (NoForm at) = 5
-sheetNumber (NotAbove at) = 6

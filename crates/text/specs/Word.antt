@@ -21,10 +21,3 @@ wordCheck w =
     (pick (not (isUtf8 w)) NotUtf8
     (pick (holdsForbidden w) Forbidden
     Accepted))
-
--- document 01's number of each answer, 0 for a word that is accepted
-abbrev pub wordNumber : WordCheck → ℕ
-wordNumber Accepted = 0
-wordNumber TooLong = 1
-wordNumber NotUtf8 = 2
-wordNumber Forbidden = 3

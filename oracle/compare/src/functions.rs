@@ -18,6 +18,7 @@ pub struct Functions {
     pub readings: Fill,
     pub listing: Fill,
     pub has_analysis: Ask,
+    pub has_known_root: Ask,
     pub candidates: Fill,
     pub decompose: Fill,
     pub progressive: Ask,
@@ -32,6 +33,7 @@ pub const LIBRARY: Functions = Functions {
     readings: raw::readings,
     listing: raw::listing,
     has_analysis: raw::has_analysis,
+    has_known_root: raw::has_known_root,
     candidates: raw::candidates,
     decompose: raw::decompose,
     progressive: raw::progressive,
@@ -43,7 +45,7 @@ pub const LIBRARY: Functions = Functions {
 pub fn answers(functions: &Functions, case: &Case) -> Answers {
     let (word, sheet) = (&case.word[..], &case.sheet[..]);
     let [readings, best_analysis] = readings(functions, word, sheet);
-    let [candidates, best_root, has_known_root] = candidates(functions, word, sheet);
+    let [candidates, best_root] = candidates(functions, word, sheet);
     let [origin, classify] = origin((functions.origin)(word, sheet), (functions.confidence)(word, sheet));
     [
         check((functions.check_word)(word)),
@@ -54,7 +56,7 @@ pub fn answers(functions: &Functions, case: &Case) -> Answers {
         yes_or_no("has_analysis", (functions.has_analysis)(word, sheet)),
         candidates,
         best_root,
-        has_known_root,
+        yes_or_no("has_known_root", (functions.has_known_root)(word, sheet)),
         decomposition(functions, word, sheet),
         progressive(word, sheet, (functions.progressive)(word, sheet)),
         yes_or_no("has_progressive", (functions.has_progressive)(word, sheet)),
@@ -74,8 +76,8 @@ fn check(code: u64) -> String {
 
 fn yes_or_no(question: &str, code: u64) -> String {
     match code {
-        0 => texts::yes_or_no(question, false),
-        15 => texts::yes_or_no(question, true),
+        raw::NO => texts::yes_or_no(question, false),
+        raw::YES => texts::yes_or_no(question, true),
         _ => refused(code),
     }
 }
@@ -134,17 +136,13 @@ pub fn text_of(bytes: &[u8]) -> String {
     text.strip_suffix('\n').map_or_else(|| format!("no 0A at the end of {text}"), str::to_string)
 }
 
-/// The candidates, the first of them, and whether there is one.
-fn candidates(functions: &Functions, word: &[u8], sheet: &[u8]) -> [String; 3] {
+/// The candidates, and the first of them.
+fn candidates(functions: &Functions, word: &[u8], sheet: &[u8]) -> [String; 2] {
     let ask = |out: &mut [u8]| (functions.candidates)(word, sheet, out);
     let of_row = |row: &[u8; CANDIDATE_ROW]| RootCandidate::of_row(word, row).filter(|_| is_after_form(word, row));
     match rows(ask, CANDIDATES_ROOM, of_row) {
-        Ok(list) => [
-            texts::candidates(&list),
-            texts::best_root(list.first()),
-            texts::yes_or_no("has_known_root", !list.is_empty()),
-        ],
-        Err(text) => [text.clone(), text.clone(), text],
+        Ok(list) => [texts::candidates(&list), texts::best_root(list.first())],
+        Err(text) => [text.clone(), text],
     }
 }
 

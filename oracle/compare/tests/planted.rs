@@ -48,9 +48,14 @@ fn other(code: u64, from: u8, to: u8) -> u64 {
     if raw::number(code) == from { code - u64::from(from) + u64::from(to) } else { code }
 }
 
+/// A code that is another's.
+fn yes(code: u64, from: u64, to: u64) -> u64 {
+    if code == from { to } else { code }
+}
+
 #[test]
 fn wrong_codes() {
-    let plants: [(&[&str], Functions); 12] = [
+    let plants: [(&[&str], Functions); 14] = [
         (&["check_word"], Functions { check_word: |word| other(raw::check_word(word), 3, 2), ..LIBRARY }),
         (&["check_sheet"], Functions { check_sheet: |sheet| other(raw::check_sheet(sheet), 6, 5), ..LIBRARY }),
         // The place of the line after the faulty one.
@@ -58,7 +63,7 @@ fn wrong_codes() {
             &["check_sheet"],
             Functions {
                 check_sheet: |sheet| match raw::check_sheet(sheet) {
-                    code if raw::number(code) == 5 => code + 16,
+                    code if raw::number(code) == 5 => code + (1 << 8),
                     code => code,
                 },
                 ..LIBRARY
@@ -66,24 +71,32 @@ fn wrong_codes() {
         ),
         (
             &["has_analysis"],
-            Functions { has_analysis: |word, sheet| other(raw::has_analysis(word, sheet), 7, 15), ..LIBRARY },
+            Functions { has_analysis: |word, sheet| yes(raw::has_analysis(word, sheet), 7, raw::YES), ..LIBRARY },
         ),
         (
             &["has_progressive"],
-            Functions { has_progressive: |word, sheet| other(raw::has_progressive(word, sheet), 15, 0), ..LIBRARY },
+            Functions { has_progressive: |word, sheet| yes(raw::has_progressive(word, sheet), raw::YES, raw::NO), ..LIBRARY },
+        ),
+        (
+            &["has_known_root"],
+            Functions { has_known_root: |word, sheet| yes(raw::has_known_root(word, sheet), raw::YES, raw::NO), ..LIBRARY },
+        ),
+        (
+            &["has_known_root"],
+            Functions { has_known_root: |word, sheet| yes(raw::has_known_root(word, sheet), raw::NO, raw::YES), ..LIBRARY },
         ),
         // The other sign, the lemma a byte on, and no form.
-        (&["progressive"], Functions { progressive: |word, sheet| form(word, sheet, |code| code ^ 16), ..LIBRARY }),
+        (&["progressive"], Functions { progressive: |word, sheet| form(word, sheet, |code| code ^ (1 << 9)), ..LIBRARY }),
         (
             &["progressive"],
-            Functions { progressive: |word, sheet| form(word, sheet, |code| code + (1 << 21)), ..LIBRARY },
+            Functions { progressive: |word, sheet| form(word, sheet, |code| code + (1 << 26)), ..LIBRARY },
         ),
         (&["progressive"], Functions { progressive: |word, sheet| form(word, sheet, |_| 0), ..LIBRARY }),
         (
             &["origin"],
             Functions {
                 origin: |word, sheet| match raw::origin(word, sheet) {
-                    code if raw::number(code) == 0 => code ^ 64,
+                    code if raw::number(code) == 0 => code ^ (1 << 10),
                     code => code,
                 },
                 ..LIBRARY
@@ -94,7 +107,7 @@ fn wrong_codes() {
             &["origin", "classify"],
             Functions {
                 origin: |word, sheet| match raw::origin(word, sheet) {
-                    code if raw::number(code) == 0 => code ^ 16,
+                    code if raw::number(code) == 0 => code ^ (1 << 8),
                     code => code,
                 },
                 ..LIBRARY
@@ -131,7 +144,7 @@ fn wrong_codes() {
 /// The code of a progressive form, changed.
 fn form(word: &[u8], sheet: &[u8], change: fn(u64) -> u64) -> u64 {
     match raw::progressive(word, sheet) {
-        code if raw::number(code) == 15 => change(code),
+        code if raw::number(code) == 0 && code != raw::NO => change(code),
         code => code,
     }
 }
@@ -141,7 +154,7 @@ type Fill = fn(&[u8], &[u8], &mut [u8]) -> u64;
 /// The functions that fill a buffer, with the questions that they answer.
 const READINGS: &[&str] = &["readings", "best_analysis"];
 const LISTING: &[&str] = &["listing"];
-const CANDIDATES: &[&str] = &["candidates", "best_root", "has_known_root"];
+const CANDIDATES: &[&str] = &["candidates", "best_root"];
 const DECOMPOSITION: &[&str] = &["decomposition"];
 
 /// The questions that see rows of candidates, not only whether there are some.

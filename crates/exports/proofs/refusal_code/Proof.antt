@@ -1,86 +1,50 @@
--- `exports::refusal_code` meets its contract, refusal by refusal: the place of a faulty line is small enough. Assumes nothing.
+-- `exports::refusal_code` meets its contract: the number fits a byte, and the place of a faulty line is small enough. Assumes nothing.
 use Prim.Native.Nat.{_<_}
 use native.Mathlib.Omega.{arith}
 use borrow.Author.Needs.{needs}
-use mathlib.Core.Path.{sym, ap, subst}
+use mathlib.Core.Path.{sym, ap, _∙_}
+use Rattle.refusals.specs.Refusals.{numbersTold}
 use Rattle.sheet.specs.Lines.{sheetLimit}
-use Rattle.sheet.specs.Inputs.{Placed}
-use Rattle.exports.specs.Codes.{refusalCode}
+use Rattle.exports.specs.Codes.{coded}
+use Rattle.exports.proofs.Bounds.{number-placed}
 use Rattle.exports.proofs.refusal_code.Statement.{statement}
 use Rattle.exports.proofs.refusal_code.Tie as tie
 
-enum-told : tie.Need-enum-told
-enum-told c = search needs
+numbers-of-requires : tie.Need-numbers-of-requires
+numbers-of-requires c κs = tt
 
-enum-told-2 : tie.Need-enum-told-2
-enum-told-2 c = search needs
+enum-known-numbers : tie.Need-enum-known-numbers
+enum-known-numbers c = search needs
 
-enum-told-3 : tie.Need-enum-told-3
-enum-told-3 c = search needs
+enum-known-numbers-2 : tie.Need-enum-known-numbers-2
+enum-known-numbers-2 c = search needs
 
-enum-told-4 : tie.Need-enum-told-4
-enum-told-4 c = search needs
-
-enum-known-refusal : tie.Need-enum-known-refusal
-enum-known-refusal c = search needs
-
--- the faulty line begins inside the sheet
-no-form-at : (c : tie.After-refusal) → c .refusal .given .0 .0 < sheetLimit
-no-form-at c = subst Placed (c .refusal .given .1) (c .before .before .pre)
+-- number and place
+small : (c : tie.After-numbers2) → (c .numbers2 .given .0 .0 < 256) × (c .numbers2 .given .0 .1 .0 < sheetLimit)
+small c =
+    let n = c .before .before in
+    number-placed (n .before .args .refusal) _ _ (sym (ap numbersTold (c .numbers2 .given .1)) ∙ n .numbers-of .ensures) (n .before .pre)
 
 mul-result : tie.Need-mul-result
-mul-result c = omega (arith, no-form-at (c .before))
+mul-result c = omega (arith, small (c .before))
 
 add-result : tie.Need-add-result
-add-result c = omega (arith, no-form-at (c .before))
-
-enum-known-refusal-2 : tie.Need-enum-known-refusal-2
-enum-known-refusal-2 c = search needs
-
-not-above-at : (c : tie.After-refusal2) → c .refusal2 .given .0 .0 < sheetLimit
-not-above-at c = subst Placed (c .refusal2 .given .1) (c .before .before .pre)
-
-mul-result-2 : tie.Need-mul-result-2
-mul-result-2 c = omega (arith, not-above-at (c .before))
-
-add-result-2 : tie.Need-add-result-2
-add-result-2 c = omega (arith, not-above-at (c .before))
+add-result c = omega (arith, small (c .before))
 
 returns : tie.Need-returns
-returns c = ap refusalCode (sym (c .enum-told .given .1))
+returns c = ap coded (sym (ap numbersTold (c .before .numbers .given .1)) ∙ c .before .before .before .numbers-of .ensures)
 
 returns-2 : tie.Need-returns-2
-returns-2 c = ap refusalCode (sym (c .enum-told2 .given .1))
-
-returns-3 : tie.Need-returns-3
-returns-3 c = ap refusalCode (sym (c .enum-told3 .given .1))
-
-returns-4 : tie.Need-returns-4
-returns-4 c = ap refusalCode (sym (c .enum-told4 .given .1))
-
-returns-5 : tie.Need-returns-5
-returns-5 c = ap refusalCode (sym (c .before .refusal .given .1))
-
-returns-6 : tie.Need-returns-6
-returns-6 c = ap refusalCode (sym (c .before .refusal2 .given .1))
+returns-2 c = ap coded (sym (ap numbersTold (c .before .numbers2 .given .1)) ∙ c .before .before .before .numbers-of .ensures)
 
 pub refusal-code-spec : {M : Type 1} → statement M
 refusal-code-spec =
     tie.close
     (tie.spec
-    enum-told
-    enum-told-2
-    enum-told-3
-    enum-told-4
-    enum-known-refusal
+    numbers-of-requires
+    enum-known-numbers
+    enum-known-numbers-2
     mul-result
     add-result
-    enum-known-refusal-2
-    mul-result-2
-    add-result-2
     returns
-    returns-2
-    returns-3
-    returns-4
-    returns-5
-    returns-6)
+    returns-2)

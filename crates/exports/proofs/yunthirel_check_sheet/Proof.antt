@@ -1,6 +1,5 @@
 -- `exports::yunthirel_check_sheet` meets its contract, answer by answer: a faulty line begins inside the sheet, so its place fits. Assumes nothing.
 use Prim.Native.Nat.{_<_}
-use native.Mathlib.Omega.{arith}
 use borrow.Author.Needs.{needs}
 use mathlib.Core.Path.{sym, ap, subst, _∙_}
 use Rattle.sheet.specs.Lines.{sheetLimit}
@@ -18,6 +17,9 @@ enum-told c = search needs
 enum-told-2 : tie.Need-enum-told-2
 enum-told-2 c = search needs
 
+refusal-code-requires : tie.Need-refusal-code-requires
+refusal-code-requires c κs = tt
+
 enum-known-answer : tie.Need-enum-known-answer
 enum-known-answer c = search needs
 
@@ -25,11 +27,8 @@ enum-known-answer c = search needs
 no-form-at : (c : tie.After-answer) → c .answer .given .0 .0 < sheetLimit
 no-form-at c = subst (Inside sheetLimit) (sym (c .before .before .check-sheet .ensures) ∙ c .answer .given .1) (fault-inside (c .before .before .before .before .args .sheet .now))
 
-mul-result : tie.Need-mul-result
-mul-result c = omega (arith, no-form-at (c .before))
-
-add-result : tie.Need-add-result
-add-result c = omega (arith, no-form-at (c .before))
+refusal-code-requires-2 : tie.Need-refusal-code-requires-2
+refusal-code-requires-2 c κs = (no-form-at (c .before), tt)
 
 enum-known-answer-2 : tie.Need-enum-known-answer-2
 enum-known-answer-2 c = search needs
@@ -37,26 +36,34 @@ enum-known-answer-2 c = search needs
 not-above-at : (c : tie.After-answer2) → c .answer2 .given .0 .0 < sheetLimit
 not-above-at c = subst (Inside sheetLimit) (sym (c .before .before .check-sheet .ensures) ∙ c .answer2 .given .1) (fault-inside (c .before .before .before .before .args .sheet .now))
 
-mul-result-2 : tie.Need-mul-result-2
-mul-result-2 c = omega (arith, not-above-at (c .before))
-
-add-result-2 : tie.Need-add-result-2
-add-result-2 c = omega (arith, not-above-at (c .before))
+refusal-code-requires-3 : tie.Need-refusal-code-requires-3
+refusal-code-requires-3 c κs = (not-above-at (c .before), tt)
 
 returns : tie.Need-returns
 returns c = ap sheetCode (sym (c .enum-told .given .1) ∙ c .before .before .check-sheet .ensures)
 
 returns-2 : tie.Need-returns-2
-returns-2 c = ap sheetCode (sym (c .enum-told2 .given .1) ∙ c .before .before .check-sheet .ensures)
+returns-2 c = c .refusal-code .ensures ∙ ap sheetCode (sym (c .before .enum-told2 .given .1) ∙ c .before .before .before .check-sheet .ensures)
 
 returns-3 : tie.Need-returns-3
-returns-3 c = ap sheetCode (sym (c .before .answer .given .1) ∙ c .before .before .before .check-sheet .ensures)
+returns-3 c = c .refusal-code2 .ensures ∙ ap sheetCode (sym (c .before .before .answer .given .1) ∙ c .before .before .before .before .check-sheet .ensures)
 
 returns-4 : tie.Need-returns-4
-returns-4 c = ap sheetCode (sym (c .before .answer2 .given .1) ∙ c .before .before .before .check-sheet .ensures)
+returns-4 c = c .refusal-code3 .ensures ∙ ap sheetCode (sym (c .before .before .answer2 .given .1) ∙ c .before .before .before .before .check-sheet .ensures)
 
 pub yunthirel-check-sheet-spec : {M : Type 1} → statement M
 yunthirel-check-sheet-spec =
     tie.close
-    (tie.spec check-sheet-requires enum-told enum-told-2 enum-known-answer mul-result add-result enum-known-answer-2 mul-result-2 add-result-2 returns returns-2
-    returns-3 returns-4)
+    (tie.spec
+    check-sheet-requires
+    enum-told
+    enum-told-2
+    refusal-code-requires
+    enum-known-answer
+    refusal-code-requires-2
+    enum-known-answer-2
+    refusal-code-requires-3
+    returns
+    returns-2
+    returns-3
+    returns-4)

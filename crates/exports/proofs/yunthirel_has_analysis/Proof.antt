@@ -1,10 +1,6 @@
 -- `exports::yunthirel_has_analysis` meets its contract, answer by answer: the place of a refusal is small enough. Assumes nothing.
 use borrow.Author.Needs.{needs}
-use borrow.Author.Tests.{not-true, not-false}
 use mathlib.Core.Path.{sym, ap, _∙_}
-use mathlib.Core.Bool.{Bool}
-use Prim.Native.Nat.{ℕ}
-use Rattle.runs.specs.Runs.{pick}
 use Rattle.exports.specs.Codes.{hasCode}
 use Rattle.exports.proofs.Bounds.{has-refused}
 use Rattle.exports.proofs.yunthirel_has_analysis.Statement.{statement}
@@ -22,30 +18,17 @@ refusal-code-requires c κs =
     let a = d .before .before .before .args in
     has-refused (a .word .now) (a .sheet .now) _ _ (d .has-supported-analysis .ensures) (c .before .answer .given .1)
 
-enum-told : tie.Need-enum-told
-enum-told c = search needs
-
 enum-known-answer-2 : tie.Need-enum-known-answer-2
 enum-known-answer-2 c = search needs
 
--- the number of a given answer
-abbrev number : Bool → ℕ
-number b = pick b 15 0
+yes-code-requires : tie.Need-yes-code-requires
+yes-code-requires c κs = tt
 
 returns : tie.Need-returns
-returns c =
-    ap number (sym (not-true (c .before .before .answer2 .given .0 .0) (c .if1 .taken))) ∙ ap hasCode (sym (c .before .before .answer2 .given .1) ∙ c .before .before .before .before .has-supported-analysis .ensures)
+returns c = c .refusal-code .ensures ∙ ap hasCode (sym (c .before .before .answer .given .1) ∙ c .before .before .before .before .has-supported-analysis .ensures)
 
 returns-2 : tie.Need-returns-2
-returns-2 c =
-    c .refusal-code .ensures ∙ ap hasCode (sym (c .before .before .answer .given .1) ∙ c .before .before .before .before .has-supported-analysis .ensures)
-
-returns-3 : tie.Need-returns-3
-returns-3 c = ap hasCode (sym (c .enum-told .given .1) ∙ c .before .before .has-supported-analysis .ensures)
-
-returns-4 : tie.Need-returns-4
-returns-4 c =
-    ap number (sym (not-false (c .before .before .answer2 .given .0 .0) (c .if1 .left))) ∙ ap hasCode (sym (c .before .before .answer2 .given .1) ∙ c .before .before .before .before .has-supported-analysis .ensures)
+returns-2 c = c .yes-code .ensures ∙ ap hasCode (sym (c .before .before .answer2 .given .1) ∙ c .before .before .before .before .has-supported-analysis .ensures)
 
 pub yunthirel-has-analysis-spec : {M : Type 1} → statement M
 yunthirel-has-analysis-spec =
@@ -54,9 +37,7 @@ yunthirel-has-analysis-spec =
     has-supported-analysis-requires
     enum-known-answer
     refusal-code-requires
-    enum-told
     enum-known-answer-2
+    yes-code-requires
     returns
-    returns-2
-    returns-3
-    returns-4)
+    returns-2)

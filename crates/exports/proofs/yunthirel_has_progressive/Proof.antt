@@ -1,9 +1,6 @@
 -- `exports::yunthirel_has_progressive` meets its contract, answer by answer: the place of a refusal is small enough. Assumes nothing.
 use borrow.Author.Needs.{needs}
 use mathlib.Core.Path.{sym, ap, _∙_}
-use mathlib.Core.Bool.{Bool}
-use Prim.Native.Nat.{ℕ}
-use Rattle.runs.specs.Runs.{pick}
 use Rattle.exports.specs.Codes.{supportedCode}
 use Rattle.exports.proofs.Bounds.{supported-refused}
 use Rattle.exports.proofs.yunthirel_has_progressive.Statement.{statement}
@@ -24,21 +21,14 @@ refusal-code-requires c κs =
 enum-known-answer-2 : tie.Need-enum-known-answer-2
 enum-known-answer-2 c = search needs
 
--- the number of a given answer
-abbrev number : Bool → ℕ
-number b = pick b 15 0
+yes-code-requires : tie.Need-yes-code-requires
+yes-code-requires c κs = tt
 
 returns : tie.Need-returns
-returns c =
-    ap number (sym (c .if1 .taken)) ∙ ap supportedCode (sym (c .before .before .answer2 .given .1) ∙ c .before .before .before .before .has-supported-progressive-form .ensures)
+returns c = c .refusal-code .ensures ∙ ap supportedCode (sym (c .before .before .answer .given .1) ∙ c .before .before .before .before .has-supported-progressive-form .ensures)
 
 returns-2 : tie.Need-returns-2
-returns-2 c =
-    c .refusal-code .ensures ∙ ap supportedCode (sym (c .before .before .answer .given .1) ∙ c .before .before .before .before .has-supported-progressive-form .ensures)
-
-returns-3 : tie.Need-returns-3
-returns-3 c =
-    ap number (sym (c .if1 .left)) ∙ ap supportedCode (sym (c .before .before .answer2 .given .1) ∙ c .before .before .before .before .has-supported-progressive-form .ensures)
+returns-2 c = c .yes-code .ensures ∙ ap supportedCode (sym (c .before .before .answer2 .given .1) ∙ c .before .before .before .before .has-supported-progressive-form .ensures)
 
 pub yunthirel-has-progressive-spec : {M : Type 1} → statement M
 yunthirel-has-progressive-spec =
@@ -48,6 +38,6 @@ yunthirel-has-progressive-spec =
     enum-known-answer
     refusal-code-requires
     enum-known-answer-2
+    yes-code-requires
     returns
-    returns-2
-    returns-3)
+    returns-2)

@@ -48,11 +48,11 @@ use Rattle.ranking.proofs.Reading as R
 use Rattle.ranking.proofs.Listing as L
 use Rattle.ranking.proofs.Listing.Laws as L′
 use Rattle.analysis.specs.Answers.{rowsGiven}
-use Rattle.filled.specs.declared.Filled.{Filled}
+use Rattle.refusals.specs.declared.Written.{Written}
 use Rattle.filled.specs.declared.Plan.{Plan}
 use Rattle.filled.specs.Filled.{filledOf, written, outputOf}
-use Rattle.filled.proofs.Filled as F
-use Rattle.filled.proofs.Filled.Laws as F′
+use Rattle.refusals.proofs.Written as F
+use Rattle.refusals.proofs.Written.Laws as F′
 use Rattle.filled.proofs.Plan as P
 use Rattle.filled.proofs.Plan.Laws as P′
 use Rattle.filled.proofs.Outcomes.{is-output}

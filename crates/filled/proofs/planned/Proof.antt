@@ -5,7 +5,7 @@ use mathlib.Core.Path.{_≡_, refl, sym, _∙_, ap}
 use mathlib.Core.List.{List}
 use lib.ListN.{length}
 use Rattle.ranking.specs.declared.Reading.{Reading}
-use Rattle.filled.proofs.Outcomes.{is-refused, is-too-many, is-too-short, is-written}
+use Rattle.filled.proofs.Outcomes.{is-refused, is-too-short, is-written}
 use Rattle.filled.proofs.planned.Statement.{statement}
 use Rattle.filled.proofs.planned.Tie as tie
 
@@ -21,15 +21,12 @@ enum-known-said c = search needs
 enum-told : tie.Need-enum-told
 enum-told c = search needs
 
-enum-told-2 : tie.Need-enum-told-2
-enum-told-2 c = search needs
-
 returns : tie.Need-returns
 returns c =
     let k = c .before .before .before in
     let a = k .before .before .analyze-affixes .ensures in
     let n = k .row-count .ensures in
-    (is-too-short _ _ _ _ (sym (c .before .enum-told2 .given .1) ∙ a .0) (n .0 ∙ ap (length {A = Reading}) (a .1)) (c .if1 .taken), refl, omega arith, omega arith)
+    (is-too-short _ _ _ _ (sym (c .before .enum-told .given .1) ∙ a .0) (n .0 ∙ ap (length {A = Reading}) (a .1)) (c .if1 .taken), refl, omega arith, omega arith)
 
 returns-2 : tie.Need-returns-2
 returns-2 c =
@@ -38,15 +35,10 @@ returns-2 c =
 
 returns-3 : tie.Need-returns-3
 returns-3 c =
-    let a = c .before .before .before .before .analyze-affixes .ensures in
-    (is-too-many _ _ _ (sym (c .enum-told .given .1) ∙ a .0), refl, omega arith, omega arith)
-
-returns-4 : tie.Need-returns-4
-returns-4 c =
     let k = c .before .before .before in
     let a = k .before .before .analyze-affixes .ensures in
     let n = k .row-count .ensures in
-    (is-written _ _ _ _ (sym (c .before .enum-told2 .given .1) ∙ a .0) (n .0 ∙ ap (length {A = Reading}) (a .1)) (c .if1 .left), n .1 ∙ a .1, c .if1 .left, n .2)
+    (is-written _ _ _ _ (sym (c .before .enum-told .given .1) ∙ a .0) (n .0 ∙ ap (length {A = Reading}) (a .1)) (c .if1 .left), n .1 ∙ a .1, c .if1 .left, n .2)
 
 pub planned-spec : {M : Type 1} → statement M
-planned-spec = tie.close (tie.spec analyze-affixes-requires row-count-requires enum-known-said enum-told enum-told-2 returns returns-2 returns-3 returns-4)
+planned-spec = tie.close (tie.spec analyze-affixes-requires row-count-requires enum-known-said enum-told returns returns-2 returns-3)

@@ -1,7 +1,7 @@
 -- `write_listing` meets its contract: the first call tells the length, the second writes. Assumes nothing.
 use mathlib.Core.Path.{refl}
 use native.Mathlib.Omega.{arith}
-use Rattle.listing.proofs.Puts.{written-whole, written-not}
+use Rattle.writing.proofs.Puts.{written-whole, written-not}
 use borrow.Author.Needs.{needs}
 use Rattle.listing.proofs.write_listing.Statement.{statement}
 use Rattle.listing.proofs.write_listing.Tie as tie

@@ -33,17 +33,11 @@ enum-known-said c = search needs
 enum-told : tie.Need-enum-told
 enum-told c = search needs
 
-enum-told-2 : tie.Need-enum-told-2
-enum-told-2 c = search needs
-
 returns : tie.Need-returns
 returns c = let i = c .before in has-by (i .before .before) _ (i .said .given .1)
 
 returns-2 : tie.Need-returns-2
 returns-2 c = has-by (c .before .before) _ (c .enum-told .given .1)
-
-returns-3 : tie.Need-returns-3
-returns-3 c = has-by (c .before .before) _ (c .enum-told2 .given .1)
 
 pub has-supported-analysis-spec : {M : Type 1} → statement M
 has-supported-analysis-spec =
@@ -52,7 +46,5 @@ has-supported-analysis-spec =
     best-analysis-requires
     enum-known-said
     enum-told
-    enum-told-2
     returns
-    returns-2
-    returns-3)
+    returns-2)

@@ -9,8 +9,14 @@ use borrow.Author.Needs.{needs}
 use Rattle.exports.proofs.parts.put_morpheme.Statement.{statement}
 use Rattle.exports.proofs.parts.put_morpheme.Tie as tie
 
+refusal-code-requires : tie.Need-refusal-code-requires
+refusal-code-requires c κs = tt
+
 returns : tie.Need-returns
-returns c = let a = c .before .before .args in stored-short 0 (morphemeBytes (a .m)) (a .out .now) (c .if1 .taken)
+returns c =
+    let a = c .before .before .before .args in
+    let q = stored-short 0 (morphemeBytes (a .m)) (a .out .now) (c .before .if1 .taken) in
+    (c .refusal-code .ensures ∙ q .0, q .1)
 
 origin-byte-requires : tie.Need-origin-byte-requires
 origin-byte-requires c κs = search needs
@@ -28,4 +34,4 @@ returns-2 c =
 
 pub put-morpheme-spec : {M : Type 1} → statement M
 put-morpheme-spec =
-    tie.close (tie.spec returns origin-byte-requires put-parts-requires same-length returns-2)
+    tie.close (tie.spec refusal-code-requires returns origin-byte-requires put-parts-requires same-length returns-2)

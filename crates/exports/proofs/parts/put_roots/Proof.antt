@@ -1,7 +1,7 @@
 -- `parts::put_roots` meets its contract. Assumes nothing.
 use Prim.Native.Nat.{_≤_}
 use native.Mathlib.Omega.{arith}
-use mathlib.Core.Path.{_≡_, sym}
+use mathlib.Core.Path.{_≡_, sym, _∙_}
 use lib.ListN.{length, length-map}
 use lib.Seq.{length-take-le}
 use Rattle.roots.specs.Lists.{rowsOf}
@@ -24,14 +24,20 @@ counted c = let l = room c in let n = few c in sym (length-take-le (c .args .lis
 mul-if1 : tie.Need-mul-if1
 mul-if1 c = omega (arith, few (c .before))
 
+refusal-code-requires : tie.Need-refusal-code-requires
+refusal-code-requires c κs = tt
+
 returns : tie.Need-returns
-returns c = let b = c .before .before in rows-short candidateBytes 33 (b .args .list .count) (rowsOf (b .args .list)) (b .args .out .now) (counted b) (c .if1 .taken)
+returns c =
+    let b = c .before .before .before in
+    let q = rows-short candidateBytes 33 (b .args .list .count) (rowsOf (b .args .list)) (b .args .out .now) (counted b) (c .before .if1 .taken) in
+    (c .refusal-code .ensures ∙ q .0, q .1)
 
 put-candidates-requires : tie.Need-put-candidates-requires
 put-candidates-requires c κs = search needs
 
 mul-result : tie.Need-mul-result
-mul-result c = search needs
+mul-result c = let b = c .before .before .before .before .before .before in omega (arith, few b)
 
 same-length : tie.Need-same-length
 same-length c = search needs
@@ -45,4 +51,4 @@ returns-2 c =
 
 pub put-roots-spec : {M : Type 1} → statement M
 put-roots-spec =
-    tie.close (tie.spec mul-if1 returns put-candidates-requires mul-result same-length returns-2)
+    tie.close (tie.spec mul-if1 refusal-code-requires returns put-candidates-requires mul-result same-length returns-2)

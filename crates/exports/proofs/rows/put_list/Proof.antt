@@ -1,7 +1,7 @@
 -- `rows::put_list` meets its contract. Assumes nothing.
 use Prim.Native.Nat.{_≤_}
 use native.Mathlib.Omega.{arith}
-use mathlib.Core.Path.{_≡_}
+use mathlib.Core.Path.{_≡_, _∙_}
 use lib.ListN.{length, length-map}
 use Rattle.ranking.specs.Lists.{rowsOf}
 use Rattle.exports.specs.Rows.{readingBytes}
@@ -23,14 +23,20 @@ counted c = c .pre
 mul-if1 : tie.Need-mul-if1
 mul-if1 c = omega (arith, few (c .before))
 
+refusal-code-requires : tie.Need-refusal-code-requires
+refusal-code-requires c κs = tt
+
 returns : tie.Need-returns
-returns c = let b = c .before .before in rows-short readingBytes 18 (b .args .list .count) (rowsOf (b .args .list)) (b .args .out .now) (counted b) (c .if1 .taken)
+returns c =
+    let b = c .before .before .before in
+    let q = rows-short readingBytes 18 (b .args .list .count) (rowsOf (b .args .list)) (b .args .out .now) (counted b) (c .before .if1 .taken) in
+    (c .refusal-code .ensures ∙ q .0, q .1)
 
 put-rows-requires : tie.Need-put-rows-requires
 put-rows-requires c κs = (few (c .before .before .before), omega arith)
 
 mul-result : tie.Need-mul-result
-mul-result c = search needs
+mul-result c = omega (arith, few (c .before .before .before .before .before .before))
 
 same-length : tie.Need-same-length
 same-length c = search needs
@@ -44,4 +50,4 @@ returns-2 c =
 
 pub put-list-spec : {M : Type 1} → statement M
 put-list-spec =
-    tie.close (tie.spec mul-if1 returns put-rows-requires mul-result same-length returns-2)
+    tie.close (tie.spec mul-if1 refusal-code-requires returns put-rows-requires mul-result same-length returns-2)

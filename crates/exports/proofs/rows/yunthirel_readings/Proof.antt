@@ -45,9 +45,6 @@ refusal-code-requires c κs =
 enum-told : tie.Need-enum-told
 enum-told c = search needs
 
-enum-told-2 : tie.Need-enum-told-2
-enum-told-2 c = search needs
-
 put-list-requires : tie.Need-put-list-requires
 put-list-requires c κs =
     let k = c .before .before .before .before in
@@ -59,20 +56,15 @@ returns c =
     let k = i .before .before .before in
     both (by k _ (i .said .given .1)) (c .refusal-code .ensures, refl)
 
-returns-2 : tie.Need-returns-2
-returns-2 c =
-    let k = c .before .before .before in
-    both (by k _ (c .enum-told .given .1)) (refl, refl)
-
 same-length : tie.Need-same-length
 same-length c = search needs
 
-returns-3 : tie.Need-returns-3
-returns-3 c =
+returns-2 : tie.Need-returns-2
+returns-2 c =
     let l = c .before .before in
     let e = l .before .before in
     let k = e .before .before .before in
-    both (by k _ (e .enum-told2 .given .1)) (l .put-list .ensures)
+    both (by k _ (e .enum-told .given .1)) (l .put-list .ensures)
 
 pub yunthirel-readings-spec : {M : Type 1} → statement M
 yunthirel-readings-spec =
@@ -82,9 +74,7 @@ yunthirel-readings-spec =
     enum-known-said
     refusal-code-requires
     enum-told
-    enum-told-2
     put-list-requires
     returns
-    returns-2
     same-length
-    returns-3)
+    returns-2)

@@ -48,11 +48,12 @@ use Rattle.roots.proofs.RootCandidate as R
 use Rattle.roots.proofs.Roots as L
 use Rattle.roots.proofs.Roots.Laws as L′
 use Rattle.roots.specs.Answers.{rootsFor}
-use Rattle.filled.specs.declared.candidates.FilledRoots.{FilledRoots}
+use Rattle.refusals.specs.declared.Written.{Written}
 use Rattle.filled.specs.declared.candidates.Plan.{Plan}
-use Rattle.filled.specs.FilledRoots.{rootsFilled, rootsWritten, rootsOutput}
-use Rattle.filled.proofs.candidates.FilledRoots as F
-use Rattle.filled.proofs.candidates.FilledRoots.Laws as F′
+use Rattle.filled.specs.Filled.{written}
+use Rattle.filled.specs.FilledRoots.{rootsFilled, rootsOutput}
+use Rattle.refusals.proofs.Written as F
+use Rattle.refusals.proofs.Written.Laws as F′
 use Rattle.filled.proofs.candidates.Plan as P
 use Rattle.filled.proofs.candidates.Plan.Laws as P′
 use Rattle.filled.proofs.RootOutcomes.{is-output}
@@ -100,7 +101,7 @@ number = tyInt w64
 
 -- what the contract of `planned` says of the plan p
 abbrev Planned : List ℕ → List ℕ → ℕ → Plan → Type 0
-Planned w s room p = (p .filled ≡ rootsFilled w s room) × (take (p .count) (p .list .rows) ≡ rootsWritten (p .filled) (rootsFor w s)) × (p .count ≤ room) × (p .count ≤ 16)
+Planned w s room p = (p .filled ≡ rootsFilled w s room) × (take (p .count) (p .list .rows) ≡ written (p .filled) (rootsFor w s)) × (p .count ≤ room) × (p .count ≤ 16)
 
 module _ {M : Type 1} (𝓤 : URA M) (H : Heap 𝓤) (A : Atoms 𝓤) (mem : Memory → SProp 𝓤) (run : Routine → Fun 𝓤) where
   -- the contracts that the proof cites

@@ -3,8 +3,8 @@ use Prim.Native.Nat.{ℕ, zero, suc}
 use native.Mathlib.Omega.{arith}
 use mathlib.Core.Path.{_≡_, refl, sym, ap}
 use mathlib.Core.List.{List, [], _∷_}
-use Rattle.listing.specs.Texts.{gap}
-use Rattle.listing.proofs.Puts.{put-as, put-nothing}
+use Rattle.writing.specs.Refused.{gap}
+use Rattle.writing.proofs.Puts.{put-as, put-nothing}
 use borrow.Author.Needs.{needs}
 use Rattle.listing.proofs.rows.put_gap.Statement.{statement}
 use Rattle.listing.proofs.rows.put_gap.Tie as tie

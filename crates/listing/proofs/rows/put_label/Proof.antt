@@ -3,7 +3,7 @@ use Prim.Native.Nat.{_+_, _<_}
 use native.Mathlib.Omega.{arith}
 use mathlib.Core.Path.{sym, ap, _∙_}
 use Rattle.tables.specs.Tables.{rowAt}
-use Rattle.listing.proofs.Puts.{put-as, put-nothing}
+use Rattle.writing.proofs.Puts.{put-as, put-nothing}
 use Rattle.listing.proofs.Labels.{no-label, label-row}
 use borrow.Author.Needs.{needs}
 use Rattle.listing.proofs.rows.put_label.Statement.{statement}

@@ -5,9 +5,9 @@ use mathlib.Core.Path.{_≡_, refl, sym, ap, subst, _∙_}
 use mathlib.Core.List.{List}
 use lib.ListN.{length, take, length-map}
 use lib.Seq.{length-take-le}
-use Rattle.listing.specs.Decimal.{decimal}
+use Rattle.writing.specs.Decimal.{decimal}
 use Rattle.listing.specs.Texts.{rowTexts, listingText, rowRoom}
-use Rattle.listing.proofs.Puts.{put-both, put-as}
+use Rattle.writing.proofs.Puts.{put-both, put-as}
 use Rattle.listing.proofs.Parted.{take-least}
 use borrow.Author.Needs.{needs}
 use Rattle.ranking.specs.declared.Reading.{Reading}

@@ -7,8 +7,9 @@ use lib.ListN.{length, take, drop, length-map}
 use Rattle.tables.proofs.Laid.{laid-asks}
 use Rattle.tables.proofs.Facts.{prefix-label-count}
 use Rattle.listing.proofs.Labels.{laid-label}
-use Rattle.listing.specs.Texts.{labelText, parted, partedFrom}
-use Rattle.listing.proofs.Puts.{put-as, Upto, upto-none}
+use Rattle.writing.specs.Refused.{parted, partedFrom}
+use Rattle.listing.specs.Texts.{labelText}
+use Rattle.writing.proofs.Puts.{put-as, Upto, upto-none}
 use Rattle.listing.proofs.Parted.{parted-turn, parted-all}
 use Rattle.listing.proofs.rows.put_prefixes.Statement.{statement}
 use Rattle.listing.proofs.rows.put_prefixes.Tie as tie

@@ -3,9 +3,9 @@ use mathlib.Core.Path.{_≡_, refl, ap}
 use native.Mathlib.Omega.{arith}
 use Prim.Native.Nat.{_<_}
 use lib.ListN.{length, length-map}
-use Rattle.listing.specs.Decimal.{decimal}
+use Rattle.writing.specs.Decimal.{decimal}
 use Rattle.listing.specs.Texts.{rowText}
-use Rattle.listing.proofs.Puts.{put-both, put-as}
+use Rattle.writing.proofs.Puts.{put-both, put-as}
 use Rattle.listing.proofs.Room.{reading-size}
 use Rattle.listing.proofs.rows.put_row.Statement.{statement}
 use Rattle.listing.proofs.rows.put_row.Tie as tie

@@ -7,7 +7,7 @@ use Rattle.ranking.specs.Places.{noReading}
 use Rattle.ranking.proofs.Puts.{scan-next, scan-end}
 use Rattle.text.specs.Word.{wordLimit}
 use Rattle.listing.specs.Texts.{rowText, rowTexts, rowRoom}
-use Rattle.listing.proofs.Puts.{Upto, upto-none, upto-more, upto-all}
+use Rattle.writing.proofs.Puts.{Upto, upto-none, upto-more, upto-all}
 use Rattle.listing.proofs.Room.{rows-turn, rows-end}
 use Rattle.listing.proofs.rows.put_rows.Statement.{statement}
 use Rattle.listing.proofs.rows.put_rows.Tie as tie

@@ -4,7 +4,7 @@ use native.Mathlib.Omega.{arith}
 use Rattle.tables.proofs.Laid.{laid-asks}
 use Rattle.tables.proofs.Facts.{affix-count}
 use Rattle.listing.specs.Texts.{segmentText}
-use Rattle.listing.proofs.Puts.{put-both, put-as}
+use Rattle.writing.proofs.Puts.{put-both, put-as}
 use Rattle.listing.proofs.Labels.{laid-label}
 use borrow.Author.Needs.{needs}
 use Rattle.listing.proofs.rows.put_segment.Statement.{statement}

@@ -6,8 +6,9 @@ use mathlib.Core.List.{map}
 use lib.ListN.{length, take, drop, length-map}
 use Rattle.ranking.specs.declared.AffixKind.the-variants.{Particle}
 use Rattle.ranking.specs.declared.Segment.{Segment}
-use Rattle.listing.specs.Texts.{segmentText, parted, partedFrom}
-use Rattle.listing.proofs.Puts.{put-as, Upto, upto-none}
+use Rattle.writing.specs.Refused.{parted, partedFrom}
+use Rattle.listing.specs.Texts.{segmentText}
+use Rattle.writing.proofs.Puts.{put-as, Upto, upto-none}
 use Rattle.listing.proofs.Parted.{parted-turn, parted-all}
 use Rattle.listing.proofs.rows.put_segments.Statement.{statement}
 use Rattle.listing.proofs.rows.put_segments.Tie as tie

@@ -26,7 +26,7 @@ returns-2 : tie.Need-returns-2
 returns-2 c =
     let p = c .before .before in
     let a = p .before .before .before .args in
-    absurd (never-short (printed (a .input .now)) (a .out .now) _ _ (omega arith) (p .print-answer .ensures .0) (p .print-answer .ensures .1) (c .enum-told .given .1))
+    absurd (never-short (printed (a .input .now)) (a .out .now) _ _ (omega arith) (p .print-answer .ensures .0) (p .print-answer .ensures .1) _ (c .enum-told .given .1))
 
 pub answer-of-spec : {M : Type 1} → statement M
 answer-of-spec = tie.close (tie.spec print-answer-requires enum-known-written enum-told returns returns-2)

@@ -26,7 +26,7 @@ returns-2 : tie.Need-returns-2
 returns-2 c =
     let p = c .before .before in
     let a = p .before .before .before .before .args in
-    absurd (never-short (readingsText (a .word .now) (a .sheet .now)) (a .out .now) _ _ (omega arith) (p .print-readings .ensures .0) (p .print-readings .ensures .1) (c .enum-told .given .1))
+    absurd (never-short (readingsText (a .word .now) (a .sheet .now)) (a .out .now) _ _ (omega arith) (p .print-readings .ensures .0) (p .print-readings .ensures .1) _ (c .enum-told .given .1))
 
 pub readings-of-spec : {M : Type 1} → statement M
 readings-of-spec = tie.close (tie.spec print-readings-requires enum-known-written enum-told returns returns-2)
