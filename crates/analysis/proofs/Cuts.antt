@@ -2,8 +2,7 @@
 use Prim.Native.Nat.{ℕ, zero, suc, _+_, _-_, _≤_}
 use native.Mathlib.Omega.{arith}
 use native.Mathlib.Nat.{sub-zero, zero-sub, suc-sub-suc}
-use mathlib.Core.Path.{_≡_, refl, sym, ap, _∙_}
-use mathlib.Core.Bool.{Bool}
+use mathlib.Core.Path.{_≡_, refl, sym, ap, ap₂, _∙_}
 use mathlib.Core.List.{List, [], _∷_}
 use lib.ListN.{length, take, drop, length-drop}
 use lib.Seq.{length-take-le, drop-drop, take-nil}
@@ -13,11 +12,10 @@ use Rattle.strips.specs.declared.prefix.Rest.{Rest}
 use Rattle.strips.specs.declared.prefix.Rest.the-variants.{Nothing, From}
 use Rattle.strips.proofs.Remainders.{rest-says}
 use Rattle.sheet.specs.Replies.{Ask}
-use Rattle.ranking.specs.declared.Reading.{Reading}
 use Rattle.paths.specs.declared.Chain.{Chain}
-use Rattle.paths.specs.Support.{isSupported, scoreOf}
-use Rattle.paths.specs.Readings.{filled}
-use Rattle.paths.specs.Walk.{recordOf, rootWalk}
+use Rattle.paths.specs.Support.{isSupported}
+use Rattle.paths.specs.Readings.{built, prefixesOf}
+use Rattle.paths.specs.Walk.{rootWalk}
 use Rattle.analysis.specs.Places.{between, rootFound}
 
 drop-take : (n m : ℕ) (l : List ℕ) → drop n (take m l) ≡ take (m - n) (drop n l)
@@ -45,17 +43,12 @@ module _ (w : List ℕ) (b e : ℕ) where
 
   -- the reading of a root, by texts and by places
   pub root-at : (ask : Ask) (surface : ℕ) (c : Chain) (rows : List ℕ) → b ≤ e → e ≤ length w
-      → rootFound ask surface c w e b (filled 2 0 rows) (length rows) ≡ rootWalk ask surface c (take e w) rows (between w b e)
+      → rootFound ask surface c w e b (prefixesOf rows) ≡ rootWalk ask surface c (take e w) rows (between w b e)
   unfolding rootWalk
   root-at ask surface c rows h k =
       let n : length (take e w) ≡ e = length-take-le e w k in
       let m : length (take e w) - length (between w b e) ≡ b = rw (n, between-length h k) (omega arith) in
-      ap (λ (r : Reading). pick (isSupported ask (between w b e)) (r ∷ []) []) (same-record (sym n) (sym m))
-    where
-      same-record : {s b′ : ℕ} → e ≡ s → b ≡ b′ → _≡_ {A = Reading}
-          (record { stem = e; root = b; score = scoreOf ask surface (between w b e) (length rows) (c .count); prefixes = filled 2 0 rows; segments = c .segments; «prefix_count» = length rows; «suffix_count» = c .count })
-          (record { stem = s; root = b′; score = scoreOf ask surface (between w b e) (length rows) (c .count); prefixes = filled 2 0 rows; segments = c .segments; «prefix_count» = length rows; «suffix_count» = c .count })
-      same-record p q = rw (sym p, sym q)
+      ap₂ (λ (stem at : ℕ). pick (isSupported ask (between w b e)) (built ask surface stem at (between w b e) (prefixesOf rows) c ∷ []) []) (sym n) (sym m)
 
 -- the same of a front part of the word
 module _ (w : List ℕ) (e : ℕ) where

@@ -13,7 +13,7 @@ use Rattle.tables.specs.Rows.{prefixForms}
 use Rattle.tables.proofs.Facts.{prefix-form-count}
 use Rattle.tables.proofs.Tested.{every, at}
 use Rattle.ranking.specs.declared.Reading.{Reading}
-use Rattle.paths.specs.Chains.{formOf}
+use Rattle.paths.specs.Chains.{allForms, formOf}
 use Rattle.paths.specs.Walk.{onLeft, overForms}
 use Rattle.strips.specs.Prefix.{prefixRemainder}
 use Rattle.analysis.specs.Fronts.{opensForm, mayBegin}
@@ -27,7 +27,7 @@ opened : every isOpened 0 prefixForms ≡ true
 unfolding prefixForms opensForm
 opened = refl
 
-module _ (row : ℕ) (h : row < 30) where
+module _ (row : ℕ) (h : row < allForms) where
   form-opened : isOpened row (formOf row) ≡ true
   form-opened = at isOpened prefixForms opened row [] (omega (arith, prefix-form-count))
 
@@ -53,7 +53,7 @@ module _ (row : ℕ) (h : row < 30) where
       by false b = b
       by true b = let z : true ≡ false = sym (begun piece b) ∙ e in cc
 
-pub no-forms : (f : ℕ → List ℕ → List Reading) (piece : List ℕ) → mayBegin piece ≡ false → (row n : ℕ) → row + n ≤ 30 → overForms f piece row n ≡ []
+pub no-forms : (f : ℕ → List ℕ → List Reading) (piece : List ℕ) → mayBegin piece ≡ false → (row n : ℕ) → row + n ≤ allForms → overForms f piece row n ≡ []
 unfolding overForms
 no-forms f piece e row zero h = refl
 no-forms f piece e row (suc n) h =

@@ -19,7 +19,7 @@ use Rattle.ranking.specs.Lists.{Rows, plusAll}
 use Rattle.ranking.specs.declared.Reading.{Reading}
 use Rattle.paths.specs.declared.Chain.{Chain}
 use Rattle.paths.specs.Chains.{rowsAfter}
-use Rattle.paths.specs.Readings.{kindOf}
+use Rattle.paths.specs.Readings.{segmentOf}
 use Rattle.paths.specs.Walk.{pushedOf, onLeft, stemWalk, rowWalk, rowsWalk, pieceWalk}
 use Rattle.analysis.proofs.Turns.{plus-append}
 
@@ -54,7 +54,7 @@ module _ (w piece : List ℕ) (deeper : Chain → ℕ → List ℕ → List Read
   unfolding plusAll
   row-none p q = rw (p, q)
 
-  module _ (next : Chain) (rows : ℕ) (pn : next ≡ pushedOf c (record { label = k; kind = kindOf ask k })) (pr : rows ≡ rowsAfter k) (left : List ℕ) (f : Rows)
+  module _ (next : Chain) (rows : ℕ) (pn : next ≡ pushedOf c (segmentOf ask (record { row = k; isShared = false }))) (pr : rows ≡ rowsAfter k) (left : List ℕ) (f : Rows)
       (pl : plain piece (getD affixes k []) ≡ left ∷ []) (pf : f ≡ plusAll w a (deeper next rows left)) where
     pub row-plain : shared piece (getD affixes k []) ≡ [] → f ≡ plusAll w a (rowWalk deeper ask c piece k)
     row-plain q = rw (pl, q, append-nil, sym pn, sym pr) pf

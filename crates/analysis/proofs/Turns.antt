@@ -9,7 +9,7 @@ use Rattle.runs.specs.Runs.{beginsWith}
 use Rattle.strips.specs.Prefix.{leaves, prefixRemainder}
 use Rattle.ranking.specs.Lists.{Rows, plus, plusAll}
 use Rattle.ranking.specs.declared.Reading.{Reading}
-use Rattle.paths.specs.Chains.{formOf}
+use Rattle.paths.specs.Chains.{allForms, formOf}
 use Rattle.sheet.specs.Replies.{Ask}
 use Rattle.progressive.specs.Progressive.{isProgressive}
 use Rattle.paths.specs.declared.Chain.{Chain}
@@ -56,15 +56,15 @@ module _ (ask : Ask) (surface : ℕ) (c : Chain) (w stem : List ℕ) (first : �
   second-none p = rw (p, append-nil) e
 
   -- where no form begins what is left, there is no second prefix
-  pub second-bare : isProgressive ask left ≡ false → ((f : ℕ → List ℕ → List Reading) → overForms f left 0 30 ≡ []) → g ≡ plusAll w a (secondWalk ask surface c stem first left)
+  pub second-bare : isProgressive ask left ≡ false → ((f : ℕ → List ℕ → List Reading) → overForms f left 0 allForms ≡ []) → g ≡ plusAll w a (secondWalk ask surface c stem first left)
   unfolding secondWalk
   second-bare p n = rw (p, n, append-nil) e
 
   pub second-some : (h : Rows) → isProgressive ask left ≡ false
-      → h ≡ plusAll w g (overForms (λ second rest. rootWalk ask surface c stem (first ∷ second ∷ []) rest) left 0 30) → h ≡ plusAll w a (secondWalk ask surface c stem first left)
+      → h ≡ plusAll w g (overForms (λ second rest. rootWalk ask surface c stem (first ∷ second ∷ []) rest) left 0 allForms) → h ≡ plusAll w a (secondWalk ask surface c stem first left)
   unfolding secondWalk
   second-some h p q =
-      let deeper = overForms (λ second rest. rootWalk ask surface c stem (first ∷ second ∷ []) rest) left 0 30 in
+      let deeper = overForms (λ second rest. rootWalk ask surface c stem (first ∷ second ∷ []) rest) left 0 allForms in
       rw p (q ∙ ap (λ (r : Rows). plusAll w r deeper) e ∙ sym (plus-append w a (rootWalk ask surface c stem (first ∷ []) left) deeper))
 
 -- a stem's own reading alone, where it is a progressive form; else with those of its prefixes
@@ -73,12 +73,12 @@ module _ (ask : Ask) (surface : ℕ) (c : Chain) (w stem : List ℕ) (a g : Rows
   unfolding stemWalk
   stem-none p = rw (p, append-nil) e
 
-  pub stem-bare : isProgressive ask stem ≡ false → ((f : ℕ → List ℕ → List Reading) → overForms f stem 0 30 ≡ []) → g ≡ plusAll w a (stemWalk ask surface c stem)
+  pub stem-bare : isProgressive ask stem ≡ false → ((f : ℕ → List ℕ → List Reading) → overForms f stem 0 allForms ≡ []) → g ≡ plusAll w a (stemWalk ask surface c stem)
   unfolding stemWalk
   stem-bare p n = rw (p, n, append-nil) e
 
-  pub stem-some : (h : Rows) → isProgressive ask stem ≡ false → h ≡ plusAll w g (overForms (secondWalk ask surface c stem) stem 0 30) → h ≡ plusAll w a (stemWalk ask surface c stem)
+  pub stem-some : (h : Rows) → isProgressive ask stem ≡ false → h ≡ plusAll w g (overForms (secondWalk ask surface c stem) stem 0 allForms) → h ≡ plusAll w a (stemWalk ask surface c stem)
   unfolding stemWalk
   stem-some h p q =
-      let deeper = overForms (secondWalk ask surface c stem) stem 0 30 in
+      let deeper = overForms (secondWalk ask surface c stem) stem 0 allForms in
       rw p (q ∙ ap (λ (r : Rows). plusAll w r deeper) e ∙ sym (plus-append w a (rootWalk ask surface c stem [] stem) deeper))

@@ -1,13 +1,13 @@
 -- What the code knows of a root: its support as a record. Assumes nothing.
-use Prim.Native.Nat.{ℕ, _+_, _-_, _*_}
-use lib.Dec.{eqb, leb, ltb}
+use Prim.Native.Nat.{ℕ, _-_}
+use lib.Dec.{eqb, leb}
 use mathlib.Core.Bool.{Bool, not, _&&_, _||_}
 use mathlib.Core.List.{List}
 use Rattle.sheet.specs.Replies.{Ask, lettersBy}
 use Rattle.sheet.specs.declared.letters.Letters.{Letters}
 use Rattle.lookup.specs.declared.begins.Range.{Range}
 use Rattle.progressive.specs.Progressive.{isProgressive}
-use Rattle.paths.specs.Support.{hasSibling, points}
+use Rattle.paths.specs.Support.{hasSibling, scoreFor}
 use Rattle.analysis.specs.declared.support.Support.{Support}
 
 -- of the lines whose names begin with a root there is at most one, and the root has letters: that line is the root's own
@@ -24,9 +24,7 @@ supportOf ask root = record {
 
 -- the score of a support, which is that of its root
 abbrev pub scoreFrom : ℕ → Support → ℕ → ℕ → ℕ
-scoreFrom surface s prefixes suffixes =
-    points (s .word) 100 + points (s .head) 150 + points (s .sibling) 60
-    + 20 * prefixes + 15 * suffixes + points (ltb 0 (prefixes + suffixes)) 10 + surface
+scoreFrom surface s prefixes suffixes = scoreFor (s .word) (s .head) (s .sibling) prefixes suffixes surface
 
 -- whether a root with this support, and so many bytes, is supported
 abbrev pub supports : Support → ℕ → Bool

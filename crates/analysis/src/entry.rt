@@ -3,12 +3,15 @@ use crate::suffixes::visit;
 use lookup::lines::prepare;
 use lookup::starts::Start;
 use paths::Chain;
-use ranking::AffixKind;
+use paths::Piece;
+use paths::ROWS;
 use ranking::Found;
 use ranking::Listing;
 use ranking::Reading;
-use ranking::Segment;
+use ranking::blank;
+use ranking::kept::found;
 use ranking::nothing;
+use ranking::rows::KEPT;
 use refusals::Refusal;
 use sheet::inputs::Inputs;
 ghost use mathlib.Core.Path.{_≡_};
@@ -48,45 +51,32 @@ pub enum Has {
     Given(bool),
 }
 
-// The same list with a count that is no larger than its room, as the walk leaves it.
-fn counted(list: Listing) -> Listing
-    ensures { λ r. ⌜ (rowsOf r ≡ rowsOf list) × (r .count ≡ length (rowsOf list)) ⌝ }
-{
-    let mut next = list;
-    if 64 < next.count {
-        next.count = 64;
-    }
-    next
-}
-
 // Nothing listed, with what is said of it.
 fn refused(said: Said) -> Analysis
     ensures { λ r. ⌜ (r .said ≡ said) × (rowsOf (r .list) ≡ []) × (r .list .count ≡ 0) ⌝ }
 {
     let none = nothing();
-    let list = counted(none.list);
+    let list = none.list;
     Analysis { said, list }
 }
 
 // All readings of an accepted word under an accepted sheet, or that there are more than 64.
 fn collect(word: &[u8], sheet: &[u8], starts: &[Start]) -> Found
     requires { ⌜ (wordCheck (now word) ≡ Accepted) × Indexed (now sheet) (now starts) ⌝ }
-    ensures { λ r. ⌜ foundOf r ≡ collected (now (word .entry)) (now (sheet .entry)) ⌝ }
+    ensures { λ r. ⌜ (foundOf r ≡ collected (now (word .entry)) (now (sheet .entry))) × (r .list .count ≡ length (rowsOf (r .list))) ⌝ }
 {
     let texts = tables::affixes();
     let cuts = tables::affix_starts();
     let forms = tables::prefix_forms();
     let form_cuts = tables::prefix_form_starts();
     let surface = text::characters::count(word) as u16;
-    let blank = Segment {
-        label: 0,
-        kind: AffixKind::Particle,
-    };
+    let s = blank();
     let chain = Chain {
-        segments: [blank; 4],
+        segments: [s; 4],
         count: 0,
     };
-    visit(
+    let mut out: [u8; KEPT] = [0; KEPT];
+    let n = visit(
         word,
         sheet,
         starts,
@@ -94,12 +84,16 @@ fn collect(word: &[u8], sheet: &[u8], starts: &[Start]) -> Found
         &cuts,
         &forms,
         &form_cuts,
-        word.len(),
-        chain,
-        25,
+        Piece {
+            end: word.len(),
+            chain,
+            rows: ROWS,
+        },
         surface,
-        nothing(),
-    )
+        0,
+        &mut out,
+    );
+    found(n, &out)
 }
 
 // What is given where word and sheet are accepted: the list, or that there are too many.
@@ -112,7 +106,7 @@ fn listed(word: &[u8], sheet: &[u8], starts: &[Start]) -> Analysis
     if found.over {
         return refused(Said::Refused(Refusal::TooManyReadings));
     }
-    let list = counted(found.list);
+    let list = found.list;
     Analysis {
         said: Said::Listed,
         list,

@@ -2,32 +2,34 @@
 use crate::fronts::may_begin;
 use crate::roots::with_root;
 use lookup::starts::Start;
-use paths::Chain;
+use paths::FORMS;
+use paths::Piece;
+use paths::Prefixes;
 use progressive::find::has_supported_progressive_form;
-use ranking::Found;
 use runs::begins_with;
 use strips::prefix::Rest;
 use strips::prefix::prefix_rest;
 use tables::row;
 ghost use mathlib.Core.Path.{_≡_};
 ghost use mathlib.Core.List.{[], _∷_};
-ghost use Prim.Native.Nat.{_-_, _≤_, _<_};
+ghost use Prim.Native.Nat.{_+_, _-_, _≤_, _<_};
 ghost use lib.ListN.{length, take, drop};
 ghost use Rattle.runs.specs.Runs.{beginsWith};
 ghost use Rattle.tables.specs.Rows.{prefixForms};
 ghost use Rattle.tables.specs.Tables.{Laid, affixes};
 ghost use Rattle.sheet.specs.Replies.{Indexed, reply};
 ghost use Rattle.progressive.specs.Progressive.{isProgressive};
-ghost use Rattle.ranking.specs.Lists.{foundOf, plusAll};
+ghost use Rattle.ranking.specs.Lists.{listLimit, plusAll};
+ghost use Rattle.ranking.specs.Kept.{keptOf, HasRoom};
 ghost use Rattle.paths.specs.Walk.{rootWalk, onLeft, overForms, secondWalk, stemWalk};
-ghost use Rattle.paths.specs.Chains.{formOf};
+ghost use Rattle.paths.specs.Chains.{allForms, mostStrips, formOf};
 ghost use Rattle.strips.specs.Prefix.{prefixRemainder};
 ghost use Rattle.analysis.specs.Places.{between, Lent};
 
-// Whether the word's part from byte `from` up to byte `stem` begins with the form of row k. Most parts do not, and then what has been
-// collected is left where it is.
+// Whether the word's part from byte `from` up to byte `stem` begins with the form of row k. Most parts do not, and then nothing
+// more is asked.
 fn begins(word: &[u8], forms: &[u8], form_cuts: &[u16], from: usize, stem: usize, k: u8) -> bool
-    requires { ⌜ Laid prefixForms (now forms) (now «form_cuts») × (from ≤ stem) × (stem ≤ length (now word)) × (k < 30) ⌝ }
+    requires { ⌜ Laid prefixForms (now forms) (now «form_cuts») × (from ≤ stem) × (stem ≤ length (now word)) × (k < allForms) ⌝ }
     ensures { λ r. ⌜ r ≡ beginsWith (formOf k) (between (now (word .entry)) from stem) ⌝ }
 {
     let i = k as usize;
@@ -43,27 +45,28 @@ fn second_row(
     cuts: &[u16],
     forms: &[u8],
     form_cuts: &[u16],
-    stem: usize,
+    at: Piece,
     from: usize,
     first: u8,
     second: u8,
-    chain: Chain,
     surface: u16,
-    found: Found,
-) -> Found
+    n: usize,
+    out: &mut [u8],
+) -> usize
     requires { ⌜ Lent (now word) (now sheet) (now starts) (now texts) (now cuts) (now forms) (now «form_cuts»)
-        × (from ≤ stem) × (stem ≤ length (now word)) × (second < 30) × (surface ≤ 192) × (chain .count ≤ 4) ⌝ }
-    ensures { λ r. ⌜ foundOf r ≡ plusAll (now (word .entry)) (foundOf found)
-        (onLeft (rootWalk (reply (now (sheet .entry))) surface chain (take stem (now (word .entry))) (first ∷ second ∷ []))
-        (prefixRemainder (between (now (word .entry)) from stem) (formOf second))) ⌝ }
+        × (from ≤ at .end) × (at .end ≤ length (now word)) × (second < allForms) × (surface ≤ 192) × (at .chain .count ≤ mostStrips) × HasRoom (now out) n ⌝ }
+    ensures { λ r. ⌜ (keptOf (now (out .exit)) r ≡ plusAll (now (word .entry)) (keptOf (now (out .entry)) n)
+        (onLeft (rootWalk (reply (now (sheet .entry))) surface (at .chain) (take (at .end) (now (word .entry))) (first ∷ second ∷ []))
+        (prefixRemainder (between (now (word .entry)) from (at .end)) (formOf second)))) × (r ≤ listLimit + 1) ⌝ }
 {
+    let stem = at.end;
     let k = second as usize;
     let form = row(forms, form_cuts, k);
     let rest = prefix_rest(&word[from..stem], form);
     match rest {
-        Rest::Nothing => found,
-        Rest::From(n) => {
-            let root = from + n;
+        Rest::Nothing => n,
+        Rest::From(cut) => {
+            let root = from + cut;
             let progressive = has_supported_progressive_form(sheet, starts, &word[root..stem]);
             with_root(
                 word,
@@ -71,14 +74,16 @@ fn second_row(
                 starts,
                 texts,
                 cuts,
-                stem,
+                at,
                 root,
-                [first, second],
-                2,
-                chain,
+                Prefixes {
+                    rows: [first, second],
+                    count: 2,
+                },
                 surface,
                 progressive,
-                found,
+                n,
+                out,
             )
         }
     }
@@ -93,22 +98,23 @@ fn second_rows(
     cuts: &[u16],
     forms: &[u8],
     form_cuts: &[u16],
-    stem: usize,
+    at: Piece,
     from: usize,
     first: u8,
-    chain: Chain,
     surface: u16,
-    found: Found,
-) -> Found
+    n: usize,
+    out: &mut [u8],
+) -> usize
     requires { ⌜ Lent (now word) (now sheet) (now starts) (now texts) (now cuts) (now forms) (now «form_cuts»)
-        × (from ≤ stem) × (stem ≤ length (now word)) × (surface ≤ 192) × (chain .count ≤ 4) ⌝ }
-    ensures { λ r. ⌜ foundOf r ≡ plusAll (now (word .entry)) (foundOf found)
-        (overForms (λ second left. rootWalk (reply (now (sheet .entry))) surface chain (take stem (now (word .entry))) (first ∷ second ∷ []) left)
-        (between (now (word .entry)) from stem) 0 30) ⌝ }
+        × (from ≤ at .end) × (at .end ≤ length (now word)) × (surface ≤ 192) × (at .chain .count ≤ mostStrips) × HasRoom (now out) n ⌝ }
+    ensures { λ r. ⌜ (keptOf (now (out .exit)) r ≡ plusAll (now (word .entry)) (keptOf (now (out .entry)) n)
+        (overForms (λ second left. rootWalk (reply (now (sheet .entry))) surface (at .chain) (take (at .end) (now (word .entry))) (first ∷ second ∷ []) left)
+        (between (now (word .entry)) from (at .end)) 0 allForms)) × (r ≤ listLimit + 1) ⌝ }
 {
-    let mut f = found;
+    let stem = at.end;
+    let mut f = n;
     let mut k: u8 = 0;
-    while k < 30 {
+    while k < FORMS {
         let second = k;
         k += 1;
         if begins(word, forms, form_cuts, from, stem, second) {
@@ -120,13 +126,13 @@ fn second_rows(
                 cuts,
                 forms,
                 form_cuts,
-                stem,
+                at,
                 from,
                 first,
                 second,
-                chain,
                 surface,
                 f,
+                out,
             );
         }
     }
@@ -142,23 +148,24 @@ fn first_row(
     cuts: &[u16],
     forms: &[u8],
     form_cuts: &[u16],
-    stem: usize,
+    at: Piece,
     first: u8,
-    chain: Chain,
     surface: u16,
-    found: Found,
-) -> Found
+    n: usize,
+    out: &mut [u8],
+) -> usize
     requires { ⌜ Lent (now word) (now sheet) (now starts) (now texts) (now cuts) (now forms) (now «form_cuts»)
-        × (stem ≤ length (now word)) × (first < 30) × (surface ≤ 192) × (chain .count ≤ 4) ⌝ }
-    ensures { λ r. ⌜ foundOf r ≡ plusAll (now (word .entry)) (foundOf found)
-        (onLeft (secondWalk (reply (now (sheet .entry))) surface chain (take stem (now (word .entry))) first)
-        (prefixRemainder (take stem (now (word .entry))) (formOf first))) ⌝ }
+        × (at .end ≤ length (now word)) × (first < allForms) × (surface ≤ 192) × (at .chain .count ≤ mostStrips) × HasRoom (now out) n ⌝ }
+    ensures { λ r. ⌜ (keptOf (now (out .exit)) r ≡ plusAll (now (word .entry)) (keptOf (now (out .entry)) n)
+        (onLeft (secondWalk (reply (now (sheet .entry))) surface (at .chain) (take (at .end) (now (word .entry))) first)
+        (prefixRemainder (take (at .end) (now (word .entry))) (formOf first)))) × (r ≤ listLimit + 1) ⌝ }
 {
+    let stem = at.end;
     let k = first as usize;
     let form = row(forms, form_cuts, k);
     let rest = prefix_rest(&word[..stem], form);
     match rest {
-        Rest::Nothing => found,
+        Rest::Nothing => n,
         Rest::From(root) => {
             let progressive = has_supported_progressive_form(sheet, starts, &word[root..stem]);
             let f = with_root(
@@ -167,14 +174,16 @@ fn first_row(
                 starts,
                 texts,
                 cuts,
-                stem,
+                at,
                 root,
-                [first, 0],
-                1,
-                chain,
+                Prefixes {
+                    rows: [first, 0],
+                    count: 1,
+                },
                 surface,
                 progressive,
-                found,
+                n,
+                out,
             );
             if progressive {
                 return f;
@@ -190,12 +199,12 @@ fn first_row(
                 cuts,
                 forms,
                 form_cuts,
-                stem,
+                at,
                 root,
                 first,
-                chain,
                 surface,
                 f,
+                out,
             )
         }
     }
@@ -210,19 +219,20 @@ fn first_rows(
     cuts: &[u16],
     forms: &[u8],
     form_cuts: &[u16],
-    stem: usize,
-    chain: Chain,
+    at: Piece,
     surface: u16,
-    found: Found,
-) -> Found
+    n: usize,
+    out: &mut [u8],
+) -> usize
     requires { ⌜ Lent (now word) (now sheet) (now starts) (now texts) (now cuts) (now forms) (now «form_cuts»)
-        × (stem ≤ length (now word)) × (surface ≤ 192) × (chain .count ≤ 4) ⌝ }
-    ensures { λ r. ⌜ foundOf r ≡ plusAll (now (word .entry)) (foundOf found)
-        (overForms (secondWalk (reply (now (sheet .entry))) surface chain (take stem (now (word .entry)))) (take stem (now (word .entry))) 0 30) ⌝ }
+        × (at .end ≤ length (now word)) × (surface ≤ 192) × (at .chain .count ≤ mostStrips) × HasRoom (now out) n ⌝ }
+    ensures { λ r. ⌜ (keptOf (now (out .exit)) r ≡ plusAll (now (word .entry)) (keptOf (now (out .entry)) n)
+        (overForms (secondWalk (reply (now (sheet .entry))) surface (at .chain) (take (at .end) (now (word .entry)))) (take (at .end) (now (word .entry))) 0 allForms)) × (r ≤ listLimit + 1) ⌝ }
 {
-    let mut f = found;
+    let stem = at.end;
+    let mut f = n;
     let mut k: u8 = 0;
-    while k < 30 {
+    while k < FORMS {
         let first = k;
         k += 1;
         if begins(word, forms, form_cuts, 0, stem, first) {
@@ -234,11 +244,11 @@ fn first_rows(
                 cuts,
                 forms,
                 form_cuts,
-                stem,
+                at,
                 first,
-                chain,
                 surface,
                 f,
+                out,
             );
         }
     }
@@ -254,30 +264,33 @@ pub(crate) fn with_stem(
     cuts: &[u16],
     forms: &[u8],
     form_cuts: &[u16],
-    stem: usize,
-    chain: Chain,
+    at: Piece,
     surface: u16,
     progressive: bool,
-    found: Found,
-) -> Found
+    n: usize,
+    out: &mut [u8],
+) -> usize
     requires { ⌜ Lent (now word) (now sheet) (now starts) (now texts) (now cuts) (now forms) (now «form_cuts»)
-        × (stem ≤ length (now word)) × (surface ≤ 192) × (chain .count ≤ 4) × (progressive ≡ isProgressive (reply (now sheet)) (take stem (now word))) ⌝ }
-    ensures { λ r. ⌜ foundOf r ≡ plusAll (now (word .entry)) (foundOf found) (stemWalk (reply (now (sheet .entry))) surface chain (take stem (now (word .entry)))) ⌝ }
+        × (at .end ≤ length (now word)) × (surface ≤ 192) × (at .chain .count ≤ mostStrips) × (progressive ≡ isProgressive (reply (now sheet)) (take (at .end) (now word))) × HasRoom (now out) n ⌝ }
+    ensures { λ r. ⌜ (keptOf (now (out .exit)) r ≡ plusAll (now (word .entry)) (keptOf (now (out .entry)) n) (stemWalk (reply (now (sheet .entry))) surface (at .chain) (take (at .end) (now (word .entry))))) × (r ≤ listLimit + 1) ⌝ }
 {
+    let stem = at.end;
     let f = with_root(
         word,
         sheet,
         starts,
         texts,
         cuts,
-        stem,
+        at,
         0,
-        [0, 0],
-        0,
-        chain,
+        Prefixes {
+            rows: [0, 0],
+            count: 0,
+        },
         surface,
         progressive,
-        found,
+        n,
+        out,
     );
     if progressive {
         return f;
@@ -293,9 +306,9 @@ pub(crate) fn with_stem(
         cuts,
         forms,
         form_cuts,
-        stem,
-        chain,
+        at,
         surface,
         f,
+        out,
     )
 }

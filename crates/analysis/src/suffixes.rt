@@ -4,22 +4,24 @@ use lookup::answers::SheetKind;
 use lookup::answers::kind_of;
 use lookup::starts::Start;
 use paths::Chain;
+use paths::Piece;
+use paths::STRIPS;
 use progressive::find::has_supported_progressive_form;
 use ranking::AffixKind;
-use ranking::Found;
 use ranking::Segment;
 use runs::ends_with;
 use strips::suffix::suffix_rests;
 use tables::row;
 ghost use mathlib.Core.Path.{_≡_};
-ghost use Prim.Native.Nat.{_-_, _≤_, _<_};
+ghost use Prim.Native.Nat.{_+_, _-_, _≤_, _<_};
 ghost use mathlib.Core.List.{[]};
 ghost use lib.ListN.{length, take, getD};
 ghost use Rattle.runs.specs.Runs.{endsIn};
 ghost use Rattle.tables.specs.Tables.{Laid, affixes};
 ghost use Rattle.sheet.specs.Replies.{Indexed, reply};
-ghost use Rattle.ranking.specs.Lists.{foundOf, plusAll};
-ghost use Rattle.paths.specs.Chains.{rowsAfter};
+ghost use Rattle.ranking.specs.Lists.{listLimit, plusAll};
+ghost use Rattle.ranking.specs.Kept.{keptOf, HasRoom};
+ghost use Rattle.paths.specs.Chains.{allRows, mostStrips, rowsAfter};
 ghost use Rattle.paths.specs.Readings.{groupKind, kindOf};
 ghost use Rattle.paths.specs.Walk.{pushedOf, rowWalk, pieceWalk};
 ghost use Rattle.analysis.specs.Places.{Lent};
@@ -49,7 +51,7 @@ fn rows_after(k: u8) -> u8
 
 // The kind of a row: that of a kind line of the sheet, else that of its group.
 fn kind_at(sheet: &[u8], starts: &[Start], texts: &[u8], cuts: &[u16], k: u8) -> AffixKind
-    requires { ⌜ Indexed (now sheet) (now starts) × Laid affixes (now texts) (now cuts) × (k < 25) ⌝ }
+    requires { ⌜ Indexed (now sheet) (now starts) × Laid affixes (now texts) (now cuts) × (k < allRows) ⌝ }
     ensures { λ r. ⌜ r ≡ kindOf (reply (now (sheet .entry))) k ⌝ }
 {
     let i = k as usize;
@@ -63,7 +65,7 @@ fn kind_at(sheet: &[u8], starts: &[Start], texts: &[u8], cuts: &[u16], k: u8) ->
 
 // One suffix more, nearest the stem.
 fn pushed(c: Chain, s: Segment) -> Chain
-    requires { ⌜ c .count < 4 ⌝ }
+    requires { ⌜ c .count < mostStrips ⌝ }
     ensures { λ r. ⌜ r ≡ pushedOf c s ⌝ }
 {
     let x = c.segments[0];
@@ -75,9 +77,9 @@ fn pushed(c: Chain, s: Segment) -> Chain
     }
 }
 
-// Whether the word's first `end` bytes end in the text of row k. Most do not, and then what has been collected is left where it is.
+// Whether the word's first `end` bytes end in the text of row k. Most do not, and then nothing more is asked.
 fn ends(word: &[u8], texts: &[u8], cuts: &[u16], end: usize, k: u8) -> bool
-    requires { ⌜ Laid affixes (now texts) (now cuts) × (end ≤ length (now word)) × (k < 25) ⌝ }
+    requires { ⌜ Laid affixes (now texts) (now cuts) × (end ≤ length (now word)) × (k < allRows) ⌝ }
     ensures { λ r. ⌜ r ≡ endsIn (getD affixes k []) (take end (now (word .entry))) ⌝ }
 {
     let i = k as usize;
@@ -94,17 +96,19 @@ pub(crate) fn visit(
     cuts: &[u16],
     forms: &[u8],
     form_cuts: &[u16],
-    end: usize,
-    chain: Chain,
-    rows: u8,
+    at: Piece,
     surface: u16,
-    found: Found,
-) -> Found
+    n: usize,
+    out: &mut [u8],
+) -> usize
     requires { ⌜ Lent (now word) (now sheet) (now starts) (now texts) (now cuts) (now forms) (now «form_cuts»)
-        × (end ≤ length (now word)) × (surface ≤ 192) × (chain .count ≤ 4) × (rows ≤ 25) ⌝ }
-    ensures { λ r. ⌜ foundOf r ≡ plusAll (now (word .entry)) (foundOf found)
-        (pieceWalk (4 - chain .count) (reply (now (sheet .entry))) surface chain rows (take end (now (word .entry)))) ⌝ }
+        × (at .end ≤ length (now word)) × (surface ≤ 192) × (at .chain .count ≤ mostStrips) × (at .rows ≤ allRows) × HasRoom (now out) n ⌝ }
+    ensures { λ r. ⌜ (keptOf (now (out .exit)) r ≡ plusAll (now (word .entry)) (keptOf (now (out .entry)) n)
+        (pieceWalk (mostStrips - at .chain .count) (reply (now (sheet .entry))) surface (at .chain) (at .rows) (take (at .end) (now (word .entry))))) × (r ≤ listLimit + 1) ⌝ }
 {
+    let end = at.end;
+    let chain = at.chain;
+    let rows = at.rows;
     let progressive = has_supported_progressive_form(sheet, starts, &word[..end]);
     let mut f = with_stem(
         word,
@@ -114,16 +118,16 @@ pub(crate) fn visit(
         cuts,
         forms,
         form_cuts,
-        end,
-        chain,
+        at,
         surface,
         progressive,
-        found,
+        n,
+        out,
     );
     if progressive {
         return f;
     }
-    if 4 <= chain.count {
+    if STRIPS <= chain.count {
         return f;
     }
     let mut k: u8 = 0;
@@ -139,11 +143,11 @@ pub(crate) fn visit(
                 cuts,
                 forms,
                 form_cuts,
-                end,
-                chain,
+                at,
                 label,
                 surface,
                 f,
+                out,
             );
         }
     }
@@ -159,21 +163,23 @@ fn below(
     cuts: &[u16],
     forms: &[u8],
     form_cuts: &[u16],
-    end: usize,
-    chain: Chain,
+    at: Piece,
     k: u8,
     surface: u16,
-    found: Found,
-) -> Found
+    n: usize,
+    out: &mut [u8],
+) -> usize
     requires { ⌜ Lent (now word) (now sheet) (now starts) (now texts) (now cuts) (now forms) (now «form_cuts»)
-        × (end ≤ length (now word)) × (surface ≤ 192) × (chain .count < 4) × (k < 25) ⌝ }
-    ensures { λ r. ⌜ foundOf r ≡ plusAll (now (word .entry)) (foundOf found)
-        (rowWalk (pieceWalk (3 - chain .count) (reply (now (sheet .entry))) surface) (reply (now (sheet .entry))) chain (take end (now (word .entry))) k) ⌝ }
+        × (at .end ≤ length (now word)) × (surface ≤ 192) × (at .chain .count < mostStrips) × (k < allRows) × HasRoom (now out) n ⌝ }
+    ensures { λ r. ⌜ (keptOf (now (out .exit)) r ≡ plusAll (now (word .entry)) (keptOf (now (out .entry)) n)
+        (rowWalk (pieceWalk (3 - at .chain .count) (reply (now (sheet .entry))) surface) (reply (now (sheet .entry))) (at .chain) (take (at .end) (now (word .entry))) k)) × (r ≤ listLimit + 1) ⌝ }
 {
+    let end = at.end;
+    let chain = at.chain;
     let i = k as usize;
     let rests = suffix_rests(&word[..end], row(texts, cuts, i));
     if rests.count == 0 {
-        return found;
+        return n;
     }
     let kind = kind_at(sheet, starts, texts, cuts, k);
     let next = pushed(chain, Segment { label: k, kind });
@@ -187,11 +193,14 @@ fn below(
         cuts,
         forms,
         form_cuts,
-        plain,
-        next,
-        rows,
+        Piece {
+            end: plain,
+            chain: next,
+            rows,
+        },
         surface,
-        found,
+        n,
+        out,
     );
     if rests.count == 1 {
         return f;
@@ -205,10 +214,13 @@ fn below(
         cuts,
         forms,
         form_cuts,
-        shared,
-        next,
-        rows,
+        Piece {
+            end: shared,
+            chain: next,
+            rows,
+        },
         surface,
         f,
+        out,
     )
 }

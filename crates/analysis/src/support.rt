@@ -13,6 +13,7 @@ ghost use Rattle.sheet.specs.Replies.{Indexed, reply};
 ghost use Rattle.lookup.specs.Begins.{Begun};
 ghost use Rattle.progressive.specs.Progressive.{isProgressive};
 ghost use Rattle.paths.specs.Support.{isKnown, hasSibling, points};
+ghost use Rattle.paths.specs.Chains.{mostStrips, mostPrefixes};
 ghost use Rattle.analysis.specs.Supports.{isAlone, supportOf, scoreFrom, supports};
 
 // What the sheet says of a root: known by w, by h, an appended form known, a supported progressive form.
@@ -70,7 +71,7 @@ fn points_for(b: bool, n: u16) -> u16
 
 // The score of a reading whose root has this support: the surface has so many characters, and so many affixes are stripped.
 pub(crate) fn score(surface: u16, s: Support, prefixes: u8, suffixes: u8) -> u16
-    requires { ⌜ (surface ≤ 192) × (prefixes ≤ 2) × (suffixes ≤ 4) ⌝ }
+    requires { ⌜ (surface ≤ 192) × (prefixes ≤ mostPrefixes) × (suffixes ≤ mostStrips) ⌝ }
     ensures { λ r. ⌜ r ≡ scoreFrom surface s prefixes suffixes ⌝ }
 {
     let word = points_for(s.word, 100);

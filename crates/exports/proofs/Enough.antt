@@ -26,7 +26,8 @@ use Rattle.ranking.specs.Lists.{Rows}
 use Rattle.ranking.specs.declared.Reading.{Reading}
 use Rattle.paths.specs.Chains.{Route}
 use Rattle.paths.specs.Counted.{AtLeast}
-use Rattle.paths.specs.Readings.{IsReading, readingOf, filled, noSegment, segmentOf}
+use Rattle.paths.specs.Readings.{IsReading, readingOf, filled, segmentOf}
+use Rattle.ranking.specs.Stored.{noSegment, readingBytes, readingWidth}
 use Rattle.paths.proofs.Promises.{Listed}
 use Rattle.roots.specs.Answers.{rootsFor}
 use Rattle.roots.proofs.Bounded.{roots-few}
@@ -39,7 +40,7 @@ use Rattle.writing.specs.Placed.{writtenOf}
 use Rattle.listing.specs.Printed.{outcomeBy, outcomeOf, leftOf}
 use Rattle.listing.proofs.Room.{reading-size, listing-size}
 use Rattle.exports.specs.Codes.{coded, answered, refusalCode, writtenCode}
-use Rattle.exports.specs.Rows.{Filled, each, rowsFilled, readingBytes, readingsIf, readingsFilled}
+use Rattle.exports.specs.Rows.{Filled, each, rowsFilled, readingsIf, readingsFilled}
 use Rattle.exports.specs.Filled.{candidateBytes, candidatesIf, candidatesFilled}
 use Rattle.exports.proofs.Widths.{rows-long}
 use Rattle.exports.proofs.Put.{both}
@@ -47,12 +48,12 @@ use Rattle.exports.proofs.Put.{both}
 -- a list that is given is stored, all of it
 pub readings-enough : (w s out : List ℕ) → 1152 ≤ length out → saidOf w s ≡ said.Listed →
     (answered (length (rowsGiven w s)) ≡ readingsFilled w s out .code)
-    × (each readingBytes (rowsGiven w s) ++ drop (18 * length (rowsGiven w s)) out ≡ readingsFilled w s out .buffer)
+    × (each readingBytes (rowsGiven w s) ++ drop (readingWidth * length (rowsGiven w s)) out ≡ readingsFilled w s out .buffer)
 unfolding readingsFilled
 readings-enough w s out h e =
     let n = rows-few w s in
-    let f : rowsFilled 18 readingBytes (rowsGiven w s) out ≡ readingsIf (saidOf w s) (rowsGiven w s) out = ap (λ (x : Said). readingsIf x (rowsGiven w s) out) (sym e) in
-    both f (rows-long readingBytes 18 (length (rowsGiven w s)) (rowsGiven w s) out refl _ (omega arith) refl)
+    let f : rowsFilled readingWidth readingBytes (rowsGiven w s) out ≡ readingsIf (saidOf w s) (rowsGiven w s) out = ap (λ (x : Said). readingsIf x (rowsGiven w s) out) (sym e) in
+    both f (rows-long readingBytes readingWidth (length (rowsGiven w s)) (rowsGiven w s) out refl _ (omega arith) refl)
 
 pub candidates-enough : (w s out : List ℕ) → 528 ≤ length out → inputsOf w s ≡ inputs.Accepted →
     (answered (length (rootsFor w s)) ≡ candidatesFilled w s out .code)

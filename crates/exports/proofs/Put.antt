@@ -19,7 +19,7 @@ use Rattle.roots.specs.Answers.{rootsFor}
 use Rattle.roots.specs.declared.RootCandidate.{RootCandidate}
 use Rattle.refusals.specs.declared.Refusal.the-variants.{OutputTooShort}
 use Rattle.exports.specs.Codes.{bit, originNumber, refusalCode}
-use Rattle.exports.specs.Rows.{Filled, kindNumber, noSegment, readingBytes, readingsIf, readingsFilled}
+use Rattle.exports.specs.Rows.{Filled, readingsIf, readingsFilled}
 use Rattle.exports.specs.Filled.{partsBytes, morphemeBytes, candidateBytes, stored, decomposeIf, decomposeFilled, candidatesIf, candidatesFilled}
 
 pub candidate-bytes : (c : RootCandidate) {o x y : ℕ} → o ≡ originNumber (c .origin) → x ≡ bit (c .«known_word») → y ≡ bit (c .«known_headword»)
@@ -28,14 +28,6 @@ candidate-bytes c p q r = rw (p, q, r)
 
 pub morpheme-bytes : (m : Morpheme) {o : ℕ} → o ≡ originNumber (m .origin) → partsBytes (m .parts) o 0 0 0 ≡ morphemeBytes m
 morpheme-bytes m p = rw p
-
-pub reading-bytes : (r : Reading) {a b c d e f j k l m : ℕ} → a ≡ r .stem % 256 → b ≡ r .stem / 256 → c ≡ r .root % 256 → d ≡ r .root / 256
-    → e ≡ r .score % 256 → f ≡ r .score / 256 → j ≡ kindNumber (getD (r .segments) 0 noSegment .kind) → k ≡ kindNumber (getD (r .segments) 1 noSegment .kind)
-    → l ≡ kindNumber (getD (r .segments) 2 noSegment .kind) → m ≡ kindNumber (getD (r .segments) 3 noSegment .kind)
-    → a ∷ b ∷ c ∷ d ∷ e ∷ f ∷ getD (r .prefixes) 0 0 ∷ getD (r .prefixes) 1 0 ∷ getD (r .segments) 0 noSegment .label ∷ j
-    ∷ getD (r .segments) 1 noSegment .label ∷ k ∷ getD (r .segments) 2 noSegment .label ∷ l ∷ getD (r .segments) 3 noSegment .label ∷ m
-    ∷ r .«prefix_count» ∷ r .«suffix_count» ∷ [] ≡ readingBytes r
-reading-bytes r p q s t u v w x y z = rw (p, q, s, t, u, v, w, x, y, z)
 
 -- a buffer that is too short, and one that is long enough
 module _ (code : ℕ) (bytes out : List ℕ) where

@@ -27,9 +27,8 @@ use Rattle.progressive.specs.declared.find.Progressive.{Progressive}
 use Rattle.progressive.specs.declared.entry.Answer.{Answer}
 use Rattle.progressive.specs.declared.entry.Answer.the-variants as answers
 use Rattle.ranking.specs.Places.{noReading}
-use Rattle.ranking.specs.declared.AffixKind.{AffixKind}
-use Rattle.ranking.specs.declared.AffixKind.the-variants.{Particle, CaseMarker, PluralMarker, Postposition, ComparisonMarker}
-use Rattle.ranking.specs.declared.Segment.{Segment}
+use Rattle.ranking.specs.Stored.{cells, readingBytes, readingAt, readingWidth}
+use Rattle.ranking.proofs.Backs.{two-read, reading-read}
 use Rattle.ranking.specs.declared.Reading.{Reading}
 use Rattle.paths.specs.Chains.{Route}
 use Rattle.paths.specs.Readings.{readingOf}
@@ -49,8 +48,8 @@ use Rattle.roots.specs.Lists.{noCandidate}
 use Rattle.roots.specs.Answers.{rootsFor}
 use Rattle.roots.specs.declared.RootCandidate.{RootCandidate}
 use Rattle.exports.specs.Codes.{coded, answered, bit, wordCode, sheetCode, refusalCode, formValue, progressiveCode, originNumber, sourceNumber, originCode}
-use Rattle.exports.specs.Read.{numberOf, valueOf, foundOf, negativeOf, mainEndOf, lemmaLenOf, lemmaAtOf, originOf, sourceOf, kindAt, readingAt, originAt, hasBit, partsAt, candidateAt, decompositionAt}
-use Rattle.exports.specs.Rows.{Filled, each, rowsFilled, cells, kindNumber, noSegment, readingBytes, readingsIf, readingsFilled}
+use Rattle.exports.specs.Read.{numberOf, valueOf, foundOf, negativeOf, mainEndOf, lemmaLenOf, lemmaAtOf, originOf, sourceOf, originAt, hasBit, partsAt, candidateAt, decompositionAt}
+use Rattle.exports.specs.Rows.{Filled, each, rowsFilled, readingsIf, readingsFilled}
 use Rattle.exports.specs.Filled.{partsBytes, morphemeBytes, candidateBytes, stored, decomposeIf, decomposeFilled, candidatesIf, candidatesFilled}
 use Rattle.exports.proofs.Bounds.{SmallForm, answer-small}
 use Rattle.exports.proofs.Widths.{rows-long}
@@ -168,48 +167,6 @@ origin-read d =
     let s = source-small (d .source) in
     (omega arith, omega arith, omega arith)
 
--- the row of a reading
-
-kind-read : (k : AffixKind) → kindAt (kindNumber k) ≡ k
-kind-read Particle = refl
-kind-read CaseMarker = refl
-kind-read PluralMarker = refl
-kind-read Postposition = refl
-kind-read ComparisonMarker = refl
-
-two-read : (n : ℕ) → n % 256 + 256 * (n / 256) ≡ n
-two-read n = omega arith
-
--- a list of so many elements is its elements
-pair-read : (xs : List ℕ) → length xs ≡ 2 → getD xs 0 0 ∷ getD xs 1 0 ∷ [] ≡ xs
-pair-read [] e = absurd (omega arith)
-pair-read (x ∷ []) e = absurd (omega arith)
-pair-read (x ∷ y ∷ []) e = refl
-pair-read (x ∷ y ∷ z ∷ xs) e = absurd (omega arith)
-
-segment-read : (x : Segment) → record { label = x .label; kind = kindAt (kindNumber (x .kind)) } ≡ x
-segment-read x = ap (λ (k : AffixKind). record { label = x .label; kind = k }) (kind-read (x .kind))
-
-abbrev segmentBack : List Segment → ℕ → Segment
-segmentBack xs i = record { label = getD xs i noSegment .label; kind = kindAt (kindNumber (getD xs i noSegment .kind)) }
-
-four-read : (xs : List Segment) → length xs ≡ 4 → segmentBack xs 0 ∷ segmentBack xs 1 ∷ segmentBack xs 2 ∷ segmentBack xs 3 ∷ [] ≡ xs
-four-read [] e = absurd (omega arith)
-four-read (a ∷ []) e = absurd (omega arith)
-four-read (a ∷ b ∷ []) e = absurd (omega arith)
-four-read (a ∷ b ∷ c ∷ []) e = absurd (omega arith)
-four-read (a ∷ b ∷ c ∷ d ∷ []) e = rw (segment-read a, segment-read b, segment-read c, segment-read d)
-four-read (a ∷ b ∷ c ∷ d ∷ f ∷ xs) e = absurd (omega arith)
-
-reading-is : (r : Reading) {a b c : ℕ} {p : List ℕ} {g : List Segment} → a ≡ r .stem → b ≡ r .root → c ≡ r .score → p ≡ r .prefixes → g ≡ r .segments
-    → record { stem = a; root = b; score = c; prefixes = p; segments = g; «prefix_count» = r .«prefix_count»; «suffix_count» = r .«suffix_count» } ≡ r
-reading-is r e f g h k = rw (e, f, g, h, k)
-
--- at the front of any bytes it gives the reading back
-pub reading-read : (r : Reading) (rest : List ℕ) → length (r .prefixes) ≡ 2 → length (r .segments) ≡ 4 → readingAt (readingBytes r ++ rest) ≡ r
-reading-read r rest p s =
-    reading-is r (two-read (r .stem)) (two-read (r .root)) (two-read (r .score)) (pair-read (r .prefixes) p) (four-read (r .segments) s)
-
 -- Rows of one width, of elements that their rows give back.
 
 module _ {A : Type 0} (width : ℕ) (bytes : A → List ℕ) (back : List ℕ → A) (d : A) (Whole : A → Type 0) (wide : (x : A) → length (bytes x) ≡ width)
@@ -245,16 +202,16 @@ given-shaped w s e =
     by (p ∷ ps) = ((two-prefixes (reply s) w p, four-segments (reply s) w p), by ps)
 
 -- each reading of a list that is given and fits in is read back from its row in the buffer
-pub readings-read : (w s out : List ℕ) → saidOf w s ≡ said.Listed → 18 * length (rowsGiven w s) ≤ length out → (i : ℕ) → i < length (rowsGiven w s)
-    → readingAt (drop (18 * i) (readingsFilled w s out .buffer)) ≡ getD (rowsGiven w s) i noReading
+pub readings-read : (w s out : List ℕ) → saidOf w s ≡ said.Listed → readingWidth * length (rowsGiven w s) ≤ length out → (i : ℕ) → i < length (rowsGiven w s)
+    → readingAt (drop (readingWidth * i) (readingsFilled w s out .buffer)) ≡ getD (rowsGiven w s) i noReading
 unfolding readingsFilled
 readings-read w s out e h i l =
-    let f : rowsFilled 18 readingBytes (rowsGiven w s) out ≡ readingsIf (saidOf w s) (rowsGiven w s) out = ap (λ (x : Said). readingsIf x (rowsGiven w s) out) (sym e) in
-    let b : each readingBytes (rowsGiven w s) ++ drop (18 * length (rowsGiven w s)) out ≡ readingsIf (saidOf w s) (rowsGiven w s) out .buffer =
-    both f (rows-long readingBytes 18 (length (rowsGiven w s)) (rowsGiven w s) out refl _ h refl) .1 in
-    ap (λ (xs : List ℕ). readingAt (drop (18 * i) xs)) (sym b)
-    ∙ rows-read 18 readingBytes readingAt noReading Shaped (λ r. refl) (λ r rest h. reading-read r rest (h .0) (h .1))
-    (rowsGiven w s) i (drop (18 * length (rowsGiven w s)) out) (given-shaped w s e) l
+    let f : rowsFilled readingWidth readingBytes (rowsGiven w s) out ≡ readingsIf (saidOf w s) (rowsGiven w s) out = ap (λ (x : Said). readingsIf x (rowsGiven w s) out) (sym e) in
+    let b : each readingBytes (rowsGiven w s) ++ drop (readingWidth * length (rowsGiven w s)) out ≡ readingsIf (saidOf w s) (rowsGiven w s) out .buffer =
+    both f (rows-long readingBytes readingWidth (length (rowsGiven w s)) (rowsGiven w s) out refl _ h refl) .1 in
+    ap (λ (xs : List ℕ). readingAt (drop (readingWidth * i) xs)) (sym b)
+    ∙ rows-read readingWidth readingBytes readingAt noReading Shaped (λ r. refl) (λ r rest h. reading-read r rest (h .0) (h .1))
+    (rowsGiven w s) i (drop (readingWidth * length (rowsGiven w s)) out) (given-shaped w s e) l
 
 -- the rows of a candidate and of a decomposition
 

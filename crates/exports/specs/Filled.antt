@@ -17,7 +17,8 @@ use Rattle.decomposition.specs.Answers.{morphemeAnswer}
 use Rattle.roots.specs.declared.RootCandidate.{RootCandidate}
 use Rattle.roots.specs.Answers.{rootsFor}
 use Rattle.exports.specs.Codes.{bit, refusalCode, originNumber}
-use Rattle.exports.specs.Rows.{cells, Filled, rowsFilled}
+use Rattle.ranking.specs.Stored.{cells}
+use Rattle.exports.specs.Rows.{Filled, rowsFilled}
 
 -- 33 bytes: places of the root, prefix row and count, suffix count, four bytes more, then the 24 places for suffix rows
 abbrev pub partsBytes : Parts → ℕ → ℕ → ℕ → ℕ → List ℕ

@@ -1,5 +1,5 @@
 -- How a caller reads what the static library's functions give, as the C header does: shifts and masks of a code are quotients and
--- remainders by powers of 2, and a row of bytes is a reading, a candidate or a decomposition. Assumes nothing.
+-- remainders by powers of 2, and a row of bytes is a candidate or a decomposition (of a reading: `ranking/specs/Stored.readingAt`). Assumes nothing.
 use Prim.Native.Nat.{ℕ, _+_, _*_, _/_, _%_}
 use mathlib.Core.Bool.{Bool}
 use mathlib.Core.List.{List, [], _∷_}
@@ -7,10 +7,7 @@ use lib.ListN.{take, drop, getD}
 use lib.Dec.{ltb}
 use Rattle.tables.specs.declared.origins.Origin.{Origin}
 use Rattle.tables.specs.declared.origins.Origin.the-variants.{Tatsam, Tadbhav, Deshaj, Aagantuk}
-use Rattle.ranking.specs.declared.AffixKind.{AffixKind}
-use Rattle.ranking.specs.declared.AffixKind.the-variants.{Particle, CaseMarker, PluralMarker, Postposition, ComparisonMarker}
-use Rattle.ranking.specs.declared.Segment.{Segment}
-use Rattle.ranking.specs.declared.Reading.{Reading}
+use Rattle.ranking.specs.Stored.{twoAt}
 use Rattle.decomposition.specs.declared.Parts.{Parts}
 use Rattle.decomposition.specs.declared.Morpheme.{Morpheme}
 use Rattle.roots.specs.declared.RootCandidate.{RootCandidate}
@@ -45,29 +42,6 @@ originOf code = valueOf code % 4
 
 abbrev pub sourceOf : ℕ → ℕ
 sourceOf code = valueOf code / 4 % 4
-
--- the kind of each number
-abbrev pub kindAt : ℕ → AffixKind
-kindAt n = getD (Particle ∷ CaseMarker ∷ PluralMarker ∷ Postposition ∷ ComparisonMarker ∷ []) n Particle
-
--- two bytes from the i-th on as a number, the low one first
-abbrev pub twoAt : List ℕ → ℕ → ℕ
-twoAt bytes i = getD bytes i 0 + 256 * getD bytes (i + 1) 0
-
-abbrev pub segmentAt : List ℕ → ℕ → Segment
-segmentAt bytes i = record { label = getD bytes i 0; kind = kindAt (getD bytes (i + 1) 0) }
-
--- the reading whose row stands at the front
-abbrev pub readingAt : List ℕ → Reading
-readingAt bytes = record {
-  stem = twoAt bytes 0;
-  root = twoAt bytes 2;
-  score = twoAt bytes 4;
-  prefixes = getD bytes 6 0 ∷ getD bytes 7 0 ∷ [];
-  segments = segmentAt bytes 8 ∷ segmentAt bytes 10 ∷ segmentAt bytes 12 ∷ segmentAt bytes 14 ∷ [];
-  «prefix_count» = getD bytes 16 0;
-  «suffix_count» = getD bytes 17 0;
-}
 
 -- the origin of each number
 abbrev pub originAt : ℕ → Origin

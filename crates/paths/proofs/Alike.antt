@@ -22,10 +22,10 @@ use Rattle.progressive.specs.Progressive.{isProgressive}
 use Rattle.lookup.specs.Answers.{kindTold}
 use Rattle.ranking.specs.declared.AffixKind.{AffixKind}
 use Rattle.ranking.specs.declared.Reading.{Reading}
-use Rattle.paths.specs.Support.{isSupported, points, scoreOf}
-use Rattle.paths.specs.Chains.{Strip, textOf, leftBy, allRows, rowsAfter, formOf}
-use Rattle.paths.specs.Readings.{groupKind, overridden, kindOf, segmentOf, filled}
-use Rattle.paths.specs.Walk.{emptyChain, pushedOf, recordOf, rootWalk, onLeft, overForms, secondWalk, stemWalk, rowsWalk, pieceWalk, wordWalk}
+use Rattle.paths.specs.Support.{isSupported, points, scoreFor, scoreOf}
+use Rattle.paths.specs.Chains.{allForms, Strip, textOf, leftBy, allRows, rowsAfter, formOf}
+use Rattle.paths.specs.Readings.{groupKind, overridden, kindOf, segmentOf, prefixesOf}
+use Rattle.paths.specs.Walk.{emptyChain, pushedOf, recordOf, rootWalk, onLeft, overForms, secondWalk, stemWalk, stripWalk, rowsWalk, pieceWalk, wordWalk}
 use Rattle.paths.specs.declared.Chain.{Chain}
 use Rattle.paths.proofs.Routes.{plainly, sharing}
 use Rattle.paths.proofs.Members.{prefix-few, left-few}
@@ -38,13 +38,13 @@ use Rattle.paths.proofs.Agreed.{sibling-same, progressive-same, support
 -- What is left of a part is a part.
 
 module _ (w : List ℕ) where
-  prefix-part : (piece : List ℕ) (row : ℕ) (left : List ℕ) → row < 30 → Part w piece → prefixRemainder piece (formOf row) ≡ left ∷ [] → Part w left
+  prefix-part : (piece : List ℕ) (row : ℕ) (left : List ℕ) → row < allForms → Part w piece → prefixRemainder piece (formOf row) ≡ left ∷ [] → Part w left
   prefix-part piece row left h t e =
       let s = prefix-says piece (formOf row) left e in
       back-part w piece (formOf row) left (ap (λ (l : List ℕ). formOf row ++ l) (s .1) ∙ sym (begins-front (formOf row) piece (s .0)))
       (prefix-form-text row h .utf8) t
 
-  pub left-part : (piece : List ℕ) (x : Strip) (left : List ℕ) → x .row < 25 → Part w piece → leftBy piece x ≡ left ∷ [] → Part w left
+  pub left-part : (piece : List ℕ) (x : Strip) (left : List ℕ) → x .row < allRows → Part w piece → leftBy piece x ≡ left ∷ [] → Part w left
   left-part piece x left h t e = subst (Part w) (sym (left-says piece x left e .1)) (go (x .isShared))
     where
       u : isUtf8 (textOf x) ≡ true
@@ -66,7 +66,7 @@ module _ (ask ask′ : Ask) (w : List ℕ) (agree : (letter : ℕ) (name : List 
   unfolding scoreOf
   score-same root r i j =
       ap₂ (λ (t : Reply) (b : Bool).
-      points (lettersTold t .word) 100 + points (lettersTold t .head) 150 + points b 60 + 20 * i + 15 * j + points (ltb 0 (i + j)) 10 + surface)
+      scoreFor (lettersTold t .word) (lettersTold t .head) b i j surface)
       (agree 0x77 root (alone root r)) (sibling-same ask ask′ w agree root r)
 
   root-same : (c : Chain) (stem rows root : List ℕ) → Part w root → rootWalk ask surface c stem rows root ≡ rootWalk ask′ surface c stem rows root
@@ -77,18 +77,18 @@ module _ (ask ask′ : Ask) (w : List ℕ) (agree : (letter : ℕ) (name : List 
       go : (b : Bool) → isSupported ask root ≡ b → pick b (recordOf ask surface c stem rows root ∷ []) []
           ≡ pick b (recordOf ask′ surface c stem rows root ∷ []) []
       go false e = refl
-      go true e = λ i. record {
+      go true e = ap (λ (n : ℕ). record {
         stem = length stem;
         root = length stem - length root;
-        score = score-same root (supported-run ask ask′ w agree root t e) (length rows) (c .count) i;
-        prefixes = filled 2 0 rows;
+        score = n;
+        prefixes = prefixesOf rows .rows;
         segments = c .segments;
         «prefix_count» = length rows;
         «suffix_count» = c .count;
-      } ∷ []
+      } ∷ []) (score-same root (supported-run ask ask′ w agree root t e) (length rows) (c .count))
 
   forms-same : (f g : ℕ → List ℕ → List Reading) (piece : List ℕ) → Part w piece → ((row : ℕ) (left : List ℕ) → Part w left → f row left ≡ g row left)
-      → (row n : ℕ) → row + n ≤ 30 → overForms f piece row n ≡ overForms g piece row n
+      → (row n : ℕ) → row + n ≤ allForms → overForms f piece row n ≡ overForms g piece row n
   unfolding overForms
   forms-same f g piece t e row zero h = refl
   forms-same f g piece t e row (suc n) h =
@@ -100,11 +100,11 @@ module _ (ask ask′ : Ask) (w : List ℕ) (agree : (letter : ℕ) (name : List 
   -- a root, and what its prefix rows go on with
   fronts-same : (c : Chain) (stem rows : List ℕ) (f g : ℕ → List ℕ → List Reading) → ((row : ℕ) (left : List ℕ) → Part w left → f row left ≡ g row left)
       → (piece : List ℕ) → Part w piece
-      → rootWalk ask surface c stem rows piece ++ pick (isProgressive ask piece) [] (overForms f piece 0 30)
-      ≡ rootWalk ask′ surface c stem rows piece ++ pick (isProgressive ask′ piece) [] (overForms g piece 0 30)
+      → rootWalk ask surface c stem rows piece ++ pick (isProgressive ask piece) [] (overForms f piece 0 allForms)
+      ≡ rootWalk ask′ surface c stem rows piece ++ pick (isProgressive ask′ piece) [] (overForms g piece 0 allForms)
   fronts-same c stem rows f g e piece t =
       ap₂ (λ (a b : List Reading). a ++ b) (root-same c stem rows piece t)
-      (ap₂ (λ (b : Bool) (l : List Reading). pick b [] l) (progressive-same ask ask′ w agree piece t) (forms-same f g piece t e 0 30 (omega arith)))
+      (ap₂ (λ (b : Bool) (l : List Reading). pick b [] l) (progressive-same ask ask′ w agree piece t) (forms-same f g piece t e 0 allForms (omega arith)))
 
   stem-same : (c : Chain) (stem : List ℕ) → Part w stem → stemWalk ask surface c stem ≡ stemWalk ask′ surface c stem
   unfolding stemWalk secondWalk
@@ -112,21 +112,20 @@ module _ (ask ask′ : Ask) (w : List ℕ) (agree : (letter : ℕ) (name : List 
       fronts-same c stem [] _ _
       (λ first left s. fronts-same c stem (first ∷ []) _ _ (λ second last r. root-same c stem (first ∷ second ∷ []) last r) left s) stem t
 
-  kind-same : (row : ℕ) → row < 25 → kindOf ask row ≡ kindOf ask′ row
+  kind-same : (row : ℕ) → row < allRows → kindOf ask row ≡ kindOf ask′ row
   kind-same row h = ap (λ (r : Reply). overridden (kindTold r) (groupKind row)) (agree 0x6B (getD affixes row []) (kind row h))
 
   module _ (f g : Chain → ℕ → List ℕ → List Reading)
-      (e : (c : Chain) (rows : ℕ) (left : List ℕ) → rows ≤ 25 → Part w left → f c rows left ≡ g c rows left)
+      (e : (c : Chain) (rows : ℕ) (left : List ℕ) → rows ≤ allRows → Part w left → f c rows left ≡ g c rows left)
       (c : Chain) (piece : List ℕ) (t : Part w piece) where
-    strip-same : (x : Strip) → x .row < 25
-        → onLeft (f (pushedOf c (segmentOf ask x)) (rowsAfter (x .row))) (leftBy piece x)
-        ≡ onLeft (g (pushedOf c (segmentOf ask′ x)) (rowsAfter (x .row))) (leftBy piece x)
+    strip-same : (x : Strip) → x .row < allRows
+        → stripWalk f ask c piece x ≡ stripWalk g ask′ c piece x
     strip-same x h =
         ap (λ (k : AffixKind). onLeft (f (pushedOf c (record { label = x .row; kind = k })) (rowsAfter (x .row))) (leftBy piece x)) (kind-same (x .row) h)
         ∙ on-left-same _ _ (leftBy piece x) (left-few piece x)
         (λ left q. e (pushedOf c (segmentOf ask′ x)) (rowsAfter (x .row)) left (rows-fewer (x .row)) (left-part w piece x left h t q))
 
-    rows-same : (row n : ℕ) → row + n ≤ 25 → rowsWalk f ask c piece row n ≡ rowsWalk g ask′ c piece row n
+    rows-same : (row n : ℕ) → row + n ≤ allRows → rowsWalk f ask c piece row n ≡ rowsWalk g ask′ c piece row n
     unfolding rowsWalk
     rows-same row zero h = refl
     rows-same row (suc n) h =
@@ -134,7 +133,7 @@ module _ (ask ask′ : Ask) (w : List ℕ) (agree : (letter : ℕ) (name : List 
         (ap₂ (λ (a b : List Reading). a ++ b) (strip-same (plainly row) (omega arith)) (strip-same (sharing row) (omega arith)))
         (rows-same (suc row) n (omega arith))
 
-  piece-same : (depth : ℕ) (c : Chain) (rows : ℕ) (piece : List ℕ) → rows ≤ 25 → Part w piece
+  piece-same : (depth : ℕ) (c : Chain) (rows : ℕ) (piece : List ℕ) → rows ≤ allRows → Part w piece
       → pieceWalk depth ask surface c rows piece ≡ pieceWalk depth ask′ surface c rows piece
   unfolding pieceWalk
   piece-same zero c rows piece h t = stem-same c piece t

@@ -15,7 +15,7 @@ use Rattle.sheet.specs.Replies.{Ask}
 use Rattle.progressive.specs.Progressive.{isProgressive}
 use Rattle.ranking.specs.Rank.{isLess}
 use Rattle.paths.specs.Support.{isSupported}
-use Rattle.paths.specs.Chains.{Strip, leftBy, allRows, rowsAfter, formOf, Route}
+use Rattle.paths.specs.Chains.{allForms, Strip, leftBy, allRows, rowsAfter, formOf, Route}
 use Rattle.paths.specs.Readings.{partsOf}
 use Rattle.paths.specs.Rank.{placeOf}
 use Rattle.paths.specs.Walk.{onLeft}
@@ -67,8 +67,8 @@ module _ (ask : Ask) where
   fronts-ascend zero piece = bare-ascends piece
   fronts-ascend (suc depth) piece =
       let at = frontsAt (frontsFrom depth ask) piece in
-      pairwise-append Sooner (bare ask piece) (pick (isProgressive ask piece) [] (overRows at 0 30)) (bare-ascends piece)
-      (pairwise-pick Sooner (isProgressive ask piece) (overRows at 0 30)
+      pairwise-append Sooner (bare ask piece) (pick (isProgressive ask piece) [] (overRows at 0 allForms)) (bare-ascends piece)
+      (pairwise-pick Sooner (isProgressive ask piece) (overRows at 0 allForms)
       (pairwise-over Sooner at
       (λ k. pairwise-map Sooner Sooner (behind k) (onLeft (frontsFrom depth ask) (prefixRemainder piece (formOf k)))
       (λ f g m n e. step-same k k _ refl ∙ e)
@@ -76,9 +76,9 @@ module _ (ask : Ask) where
       (λ i j f g l m n.
       let a = front-head (frontsFrom depth ask) piece i f m in
       let b = front-head (frontsFrom depth ask) piece j g n in
-      subst₂ Sooner (sym (a .1)) (sym (b .1)) (step-less i j _ l)) 0 30))
+      subst₂ Sooner (sym (a .1)) (sym (b .1)) (step-less i j _ l)) 0 allForms))
       (λ f g m n.
-      let k = of-over at 0 30 (of-pick (isProgressive ask piece) (overRows at 0 30) n .1) in
+      let k = of-over at 0 allForms (of-pick (isProgressive ask piece) (overRows at 0 allForms) n .1) in
       let b = front-head (frontsFrom depth ask) piece (k .0) g (k .3) in
       ap₂ cmp (bare-rows piece f m) (ap (λ (h : Front). h .rows) (b .1)))
 

@@ -9,7 +9,7 @@ use Rattle.strips.specs.Prefix.{prefixRemainder}
 use Rattle.sheet.specs.Replies.{Ask}
 use Rattle.progressive.specs.Progressive.{isProgressive}
 use Rattle.paths.specs.Support.{isSupported}
-use Rattle.paths.specs.Chains.{Strip, leftBy, allRows, rowsAfter, formOf, Route, PathOf}
+use Rattle.paths.specs.Chains.{allForms, Strip, leftBy, allRows, rowsAfter, formOf, Route, PathOf}
 use Rattle.paths.proofs.Routes.{behind, bare, frontsAt, frontsFrom, stemRoute, under, stripped, plainly, routesAt, routesFrom, routes}
 use Rattle.paths.proofs.Members.{in-map, in-pick, in-over, in-left}
 use Rattle.paths.proofs.Sound.{FrontOf, RouteOf, sound}
@@ -31,7 +31,7 @@ module _ (ask : Ask) where
       let l = r .1 .2 in
       let m = front-complete depth (l .0) rows root (omega arith, l .2, r .2) in
       Memᴰ·append-right (bare ask piece) (in-pick (isProgressive ask piece) (r .1 .1)
-      (in-over (frontsAt (frontsFrom depth ask) piece) 0 30 row (omega arith) (omega arith)
+      (in-over (frontsAt (frontsFrom depth ask) piece) 0 allForms row (omega arith) (omega arith)
       (in-map (behind row) (in-left (frontsFrom depth ask) (prefixRemainder piece (formOf row)) (l .0) (l .1) m))))
 
   stem-complete : (piece stem rows root : List ℕ) → piece ≡ stem → FrontOf 2 ask stem (record { rows = rows; root = root })

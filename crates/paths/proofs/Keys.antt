@@ -11,7 +11,7 @@ use Rattle.runs.proofs.Begins.{begins-front}
 use Rattle.tables.proofs.Compared.{by-order}
 use Rattle.tables.proofs.Facts.{holds, prefix-label-text, prefix-label-unjoined, prefix-form-unjoined, affix-text, affix-unjoined}
 use Rattle.sheet.specs.Replies.{Ask}
-use Rattle.paths.specs.Chains.{Strip, textOf, rowsAfter, Suffixed, formOf, Prefixed, Route, PathOf}
+use Rattle.paths.specs.Chains.{allRows, Strip, textOf, rowsAfter, Suffixed, formOf, Prefixed, Route, PathOf}
 use Rattle.paths.specs.Readings.{Parts, labelOf, partsOf, IsReading}
 use Rattle.paths.proofs.Cuts.{holds-append, holds-none, last-cut}
 use Rattle.paths.proofs.Joined.{joinedBy, Labels, joined-bars, joined-back, labels-turned}
@@ -34,11 +34,11 @@ module _ (ask : Ask) where
       let h = prefix-label-text row (p .0) .long in
       (record { unjoined = prefix-label-unjoined row (p .0); some = omega arith }, prefix-labels (p .2 .0) rows root (p .2 .2))
 
-  suffix-labels : (n : ℕ) → n ≤ 25 → (piece : List ℕ) (strips : List Strip) (stem : List ℕ) → Suffixed ask n piece strips stem → Labels (map textOf strips)
+  suffix-labels : (n : ℕ) → n ≤ allRows → (piece : List ℕ) (strips : List Strip) (stem : List ℕ) → Suffixed ask n piece strips stem → Labels (map textOf strips)
   suffix-labels n l piece [] stem p = tt
   suffix-labels n l piece (x ∷ strips) stem p =
       let i = p .0 in
-      let k : x .row < 25 = omega arith in
+      let k : x .row < allRows = omega arith in
       let h = affix-text (x .row) k .long in (
         record { unjoined = affix-unjoined (x .row) k; some = omega arith },
         suffix-labels (rowsAfter (x .row)) (rows-fewer (x .row)) (p .2 .0) strips stem (p .2 .2),
@@ -109,9 +109,9 @@ record Told (w : List ℕ) (r : Parts) : Type 0 where
 path-told : (ask : Ask) (w : List ℕ) (p : Route) → PathOf ask w p → Told w (partsOf p)
 path-told ask w p a = record {
   prefix-told = prefix-labels ask (p .stem) (p .prefixRows) (p .root) (a .prefixed);
-  suffix-told = labels-turned (map textOf (p .strips)) [] (suffix-labels ask 25 (omega arith) w (p .strips) (p .stem) (a .suffixed)) tt;
+  suffix-told = labels-turned (map textOf (p .strips)) [] (suffix-labels ask allRows (omega arith) w (p .strips) (p .stem) (a .suffixed)) tt;
   front = prefix-front ask (p .stem) (p .prefixRows) (p .root) (a .prefixed);
-  back = suffix-back ask 25 w (p .strips) (p .stem) (a .suffixed);
+  back = suffix-back ask allRows w (p .strips) (p .stem) (a .suffixed);
 }
 
 parts-told : (w : List ℕ) (r t : Parts) → Told w r → Told w t → keyText r ≡ keyText t → r ≡ t

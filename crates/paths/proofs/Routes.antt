@@ -8,7 +8,7 @@ use Rattle.strips.specs.Prefix.{prefixRemainder}
 use Rattle.sheet.specs.Replies.{Ask}
 use Rattle.progressive.specs.Progressive.{isProgressive}
 use Rattle.paths.specs.Support.{isSupported}
-use Rattle.paths.specs.Chains.{Strip, leftBy, allRows, rowsAfter, formOf, Route}
+use Rattle.paths.specs.Chains.{allForms, Strip, leftBy, allRows, rowsAfter, formOf, Route}
 use Rattle.paths.specs.Walk.{onLeft}
 
 -- what a row gives, row by row: n rows from `row` on
@@ -37,7 +37,7 @@ unfoldable pub frontsFrom : ℕ → Ask → List ℕ → List Front
 frontsFrom zero ask piece = bare ask piece
 frontsFrom (suc depth) ask piece =
     bare ask piece
-    ++ pick (isProgressive ask piece) [] (overRows (frontsAt (frontsFrom depth ask) piece) 0 30)
+    ++ pick (isProgressive ask piece) [] (overRows (frontsAt (frontsFrom depth ask) piece) 0 allForms)
 
 abbrev pub stemRoute : List ℕ → Front → Route
 stemRoute stem f = record { strips = []; stem = stem; prefixRows = f .rows; root = f .root }

@@ -11,7 +11,7 @@ use Rattle.strips.specs.Prefix.{prefixRemainder}
 use Rattle.sheet.specs.Replies.{Ask}
 use Rattle.progressive.specs.Progressive.{isProgressive}
 use Rattle.paths.specs.Support.{isSupported}
-use Rattle.paths.specs.Chains.{Strip, leftBy, allRows, rowsAfter, Suffixed, formOf, Prefixed, Route, PathOf}
+use Rattle.paths.specs.Chains.{allForms, Strip, leftBy, allRows, rowsAfter, Suffixed, formOf, Prefixed, Route, PathOf}
 use Rattle.paths.specs.Walk.{onLeft}
 use Rattle.paths.proofs.Routes.{overRows, Front, behind, bare, frontsAt, frontsFrom, stemRoute, under, stripped, plainly, sharing, routesAt, routesFrom, routes}
 use Rattle.paths.proofs.Members.{of-map, of-pick, of-over, of-left, prefix-few, left-few}
@@ -41,8 +41,8 @@ module _ (ask : Ask) where
   front-sound (suc depth) piece f m =
       ⊎-elim (bare-sound (suc depth) piece f)
       (λ n.
-      let c = of-pick (isProgressive ask piece) (overRows (frontsAt (frontsFrom depth ask) piece) 0 30) n in
-      let k = of-over (frontsAt (frontsFrom depth ask) piece) 0 30 (c .1) in
+      let c = of-pick (isProgressive ask piece) (overRows (frontsAt (frontsFrom depth ask) piece) 0 allForms) n in
+      let k = of-over (frontsAt (frontsFrom depth ask) piece) 0 allForms (c .1) in
       let g = of-map (behind (k .0)) (onLeft (frontsFrom depth ask) (prefixRemainder piece (formOf (k .0)))) (k .3) in
       let l = of-left (frontsFrom depth ask) (prefixRemainder piece (formOf (k .0))) (prefix-few piece (formOf (k .0))) (g .1) in
       let r = front-sound depth (l .0) (g .0) (l .2) in

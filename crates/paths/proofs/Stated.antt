@@ -21,7 +21,7 @@ use Rattle.tables.proofs.Compared.{by-order}
 use Rattle.sheet.specs.Replies.{Ask}
 use Rattle.ranking.specs.Parts.{part}
 use Rattle.ranking.specs.Rank.{isLess, larger, rootText, aheadOf, stemText}
-use Rattle.paths.specs.Chains.{Strip, rowsAfter, Suffixed, Route, PathOf}
+use Rattle.paths.specs.Chains.{allRows, Strip, rowsAfter, Suffixed, Route, PathOf}
 use Rattle.paths.specs.Readings.{Parts, partsOf, readingOf}
 use Rattle.paths.specs.Rank.{orElse, smaller, scoreBy, placeOf, earlier, rankedOr, rankedBefore}
 use Rattle.paths.proofs.Sound.{sound}
@@ -80,7 +80,7 @@ record Front (w stem : List ℕ) : Type 0 where
   joined : w ≡ stem ++ back
   utf8 : isUtf8 stem ≡ true
 
-stem-utf8 : (ask : Ask) (w : List ℕ) (n : ℕ) → n ≤ 25 → (piece : List ℕ) (strips : List Strip) (stem : List ℕ) → Part w piece → Suffixed ask n piece strips stem
+stem-utf8 : (ask : Ask) (w : List ℕ) (n : ℕ) → n ≤ allRows → (piece : List ℕ) (strips : List Strip) (stem : List ℕ) → Part w piece → Suffixed ask n piece strips stem
     → isUtf8 stem ≡ true
 stem-utf8 ask w n h piece [] stem t p = ap isUtf8 (sym p) ∙ t .part-utf8
 stem-utf8 ask w n h piece (x ∷ strips) stem t p =
@@ -89,8 +89,8 @@ stem-utf8 ask w n h piece (x ∷ strips) stem t p =
 
 path-front : (ask : Ask) (w : List ℕ) (p : Route) → isUtf8 w ≡ true → PathOf ask w p → Front w (p .stem)
 path-front ask w p u a =
-    let t = suffix-back ask 25 w (p .strips) (p .stem) (a .suffixed) in
-    record { back = t .0; joined = t .1; utf8 = stem-utf8 ask w 25 (omega arith) w (p .strips) (p .stem) (whole-part w u) (a .suffixed) }
+    let t = suffix-back ask allRows w (p .strips) (p .stem) (a .suffixed) in
+    record { back = t .0; joined = t .1; utf8 = stem-utf8 ask w allRows (omega arith) w (p .strips) (p .stem) (whole-part w u) (a .suffixed) }
 
 part-is : (w stem f root back : List ℕ) → stem ≡ f ++ root → w ≡ stem ++ back → part w (length stem - length root) (length stem) ≡ root
 unfolding part
@@ -110,13 +110,13 @@ pub root-is : (ask : Ask) (w : List ℕ) (p : Route) → PathOf ask w p → root
 unfolding readingOf
 root-is ask w p a =
     let f = prefix-front ask (p .stem) (p .prefixRows) (p .root) (a .prefixed) in
-    let t = suffix-back ask 25 w (p .strips) (p .stem) (a .suffixed) in
+    let t = suffix-back ask allRows w (p .strips) (p .stem) (a .suffixed) in
     part-is w (p .stem) (f .0) (p .root) (t .0) (f .2) (t .1)
 
 pub stem-is : (ask : Ask) (w : List ℕ) (p : Route) → PathOf ask w p → stemText w (readingOf ask w p) ≡ p .stem
 unfolding readingOf
 stem-is ask w p a =
-    let t = suffix-back ask 25 w (p .strips) (p .stem) (a .suffixed) in
+    let t = suffix-back ask allRows w (p .strips) (p .stem) (a .suffixed) in
     let z : length (p .stem) - length (p .stem) ≡ 0 = omega arith in
     ap (λ (n : ℕ). part w n (length (p .stem))) (sym z) ∙ part-is w (p .stem) [] (p .stem) (t .0) refl (t .1)
 

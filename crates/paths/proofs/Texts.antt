@@ -16,7 +16,7 @@ use Rattle.tables.specs.Rows.{prefixLabels, prefixForms, pluralMarkers, caseMar
 use Rattle.tables.specs.Tables.{affixes}
 use Rattle.tables.proofs.Tested.{at, at-two}
 use Rattle.tables.proofs.Compared.{both-begin, both-end}
-use Rattle.paths.specs.Chains.{formOf}
+use Rattle.paths.specs.Chains.{allForms, allRows, formOf}
 use Rattle.paths.specs.Readings.{labelOf}
 
 never : {P : Type 0} → _≡_ {A = Bool} false true → P
@@ -31,7 +31,7 @@ one-row i j a b = go (stand i j)
     go (above h) = absurd (b h)
     go (alike e) = e
 
-texts-differ : (i j : ℕ) → i < j → j < 25 → getD affixes i [] ≡ getD affixes j [] → ⊥
+texts-differ : (i j : ℕ) → i < j → j < allRows → getD affixes i [] ≡ getD affixes j [] → ⊥
 unfolding affixes pluralMarkers caseMarkers particles
 texts-differ i j l h e =
     let x = getD affixes i [] in
@@ -39,14 +39,14 @@ texts-differ i j l h e =
     never (sym f ∙ ap (sameText x) (sym e) ∙ same-refl x)
 
 -- a text says its row
-pub text-row : (i j : ℕ) → i < 25 → j < 25 → getD affixes i [] ≡ getD affixes j [] → i ≡ j
+pub text-row : (i j : ℕ) → i < allRows → j < allRows → getD affixes i [] ≡ getD affixes j [] → i ≡ j
 text-row i j h k e = one-row i j (λ l. texts-differ i j l k e) (λ l. texts-differ j i l h (sym e))
 
 -- without its last three bytes
 abbrev front : List ℕ → List ℕ
 front t = take (length t - 3) t
 
-unlike : (k : ℕ) → k < 25 → (endsIn (getD affixes k []) (front (getD affixes k [])) || endsIn (front (getD affixes k [])) (getD affixes k [])) ≡ false
+unlike : (k : ℕ) → k < allRows → (endsIn (getD affixes k []) (front (getD affixes k [])) || endsIn (front (getD affixes k [])) (getD affixes k [])) ≡ false
 unfolding affixes pluralMarkers caseMarkers particles
 unlike k h = not-true _ (at (λ k t. not (endsIn t (front t) || endsIn (front t) t)) affixes refl k [] h)
 
@@ -63,7 +63,7 @@ shift-ends p c t h l e =
     rw z (split-ends a (front t))
 
 -- no text ends both a piece and the piece with three bytes more
-pub ends-once : (k : ℕ) → k < 25 → (p c : List ℕ) → length c ≡ 3 → 3 ≤ length (getD affixes k []) → endsIn (getD affixes k []) p ≡ true
+pub ends-once : (k : ℕ) → k < allRows → (p c : List ℕ) → length c ≡ 3 → 3 ≤ length (getD affixes k []) → endsIn (getD affixes k []) p ≡ true
     → endsIn (getD affixes k []) (p ++ c) ≡ true → ⊥
 ends-once k h p c n l e f =
     let t = getD affixes k [] in
@@ -71,7 +71,7 @@ ends-once k h p c n l e f =
 
 -- prefix rows
 
-labels-differ : (piece : List ℕ) (i j : ℕ) → i < j → j < 30 → beginsWith (formOf i) piece ≡ true → beginsWith (formOf j) piece ≡ true
+labels-differ : (piece : List ℕ) (i j : ℕ) → i < j → j < allForms → beginsWith (formOf i) piece ≡ true → beginsWith (formOf j) piece ≡ true
     → labelOf i ≡ labelOf j → ⊥
 unfolding prefixForms prefixLabels
 labels-differ piece i j l h p q e =
@@ -81,7 +81,7 @@ labels-differ piece i j l h p q e =
     never (sym f ∙ rw (both-begin (formOf i) (formOf j) piece p q) g)
 
 -- at one piece a label says its row
-pub label-row : (piece : List ℕ) (i j : ℕ) → i < 30 → j < 30 → beginsWith (formOf i) piece ≡ true → beginsWith (formOf j) piece ≡ true
+pub label-row : (piece : List ℕ) (i j : ℕ) → i < allForms → j < allForms → beginsWith (formOf i) piece ≡ true → beginsWith (formOf j) piece ≡ true
     → labelOf i ≡ labelOf j → i ≡ j
 label-row piece i j h k p q e =
     one-row i j (λ l. labels-differ piece i j l k p q e) (λ l. labels-differ piece j i l h q p (sym e))

@@ -15,26 +15,26 @@ use Rattle.strips.specs.Suffix.{firstCharacter, without}
 use Rattle.strips.specs.Prefix.{after}
 use Rattle.strips.proofs.Rows.{affix-first}
 use Rattle.sheet.specs.Replies.{Ask}
-use Rattle.paths.specs.Chains.{Strip, textOf, rowsAfter, Suffixed, formOf, Prefixed, Route, PathOf}
+use Rattle.paths.specs.Chains.{allRows, Strip, textOf, rowsAfter, Suffixed, formOf, Prefixed, Route, PathOf}
 use Rattle.paths.specs.Readings.{Parts, labelOf, partsOf}
 use Rattle.paths.proofs.Left.{kept, left-says, left-ends, prefix-says}
 use Rattle.paths.proofs.Texts.{text-row, ends-once, label-row}
 
 -- Suffixes.
 
-pub rows-fewer : (row : ℕ) → rowsAfter row ≤ 25
+pub rows-fewer : (row : ℕ) → rowsAfter row ≤ allRows
 rows-fewer row = go (ltb row 2)
   where
-    go : (b : Bool) → pick b 0 18 ≤ 25
+    go : (b : Bool) → pick b 0 18 ≤ allRows
     go true = omega arith
     go false = omega arith
 
-first-three : (k : ℕ) → k < 25 → length (firstCharacter (getD affixes k [])) ≡ 3
+first-three : (k : ℕ) → k < allRows → length (firstCharacter (getD affixes k [])) ≡ 3
 first-three k h = rw (affix-first k h) (length-take-le 3 (getD affixes k []) (affix-text k h .long))
 
 module _ (ask : Ask) where
   -- strips with the same texts do not lead from a piece and from the piece with a character more to one stem
-  apart : (p c : List ℕ) → length c ≡ 3 → (m n : ℕ) → m ≤ 25 → (xs ys : List Strip) (stem : List ℕ) → Suffixed ask m p xs stem
+  apart : (p c : List ℕ) → length c ≡ 3 → (m n : ℕ) → m ≤ allRows → (xs ys : List Strip) (stem : List ℕ) → Suffixed ask m p xs stem
       → Suffixed ask n (p ++ c) ys stem → map textOf xs ≡ map textOf ys → ⊥
   apart p c h m n l [] [] stem a b e =
       let z : length p ≡ length p + length c = ap length (a ∙ sym b) ∙ length-append p c in
@@ -43,19 +43,19 @@ module _ (ask : Ask) where
   apart p c h m n l (x ∷ xs) [] stem a b e = cons≢nil e
   apart p c h m n l (x ∷ xs) (y ∷ ys) stem a b e =
       let i = a .0 in
-      let k : x .row < 25 = omega arith in
+      let k : x .row < allRows = omega arith in
       ends-once (x .row) k p c h (affix-text (x .row) k .long) (left-ends p x (a .2 .0) (a .2 .1))
       (subst (λ (t : List ℕ). endsIn t (p ++ c) ≡ true) (sym (head-eq-of-cons-eq e)) (left-ends (p ++ c) y (b .2 .0) (b .2 .1)))
 
   -- so strips with the same texts, to one stem, share alike
-  same-mark : (b d : Bool) (w t : List ℕ) → length (firstCharacter t) ≡ 3 → (n : ℕ) → n ≤ 25 → (xs ys : List Strip) (stem : List ℕ)
+  same-mark : (b d : Bool) (w t : List ℕ) → length (firstCharacter t) ≡ 3 → (n : ℕ) → n ≤ allRows → (xs ys : List Strip) (stem : List ℕ)
       → Suffixed ask n (kept b w t) xs stem → Suffixed ask n (kept d w t) ys stem → map textOf xs ≡ map textOf ys → b ≡ d
   same-mark true true w t h n l xs ys stem p q e = refl
   same-mark false false w t h n l xs ys stem p q e = refl
   same-mark false true w t h n l xs ys stem p q e = absurd (apart (without w t) (firstCharacter t) h n n l xs ys stem p q e)
   same-mark true false w t h n l xs ys stem p q e = absurd (apart (without w t) (firstCharacter t) h n n l ys xs stem q p (sym e))
 
-  strips-unique : (n : ℕ) → n ≤ 25 → (w : List ℕ) (xs ys : List Strip) (stem : List ℕ) → Suffixed ask n w xs stem → Suffixed ask n w ys stem
+  strips-unique : (n : ℕ) → n ≤ allRows → (w : List ℕ) (xs ys : List Strip) (stem : List ℕ) → Suffixed ask n w xs stem → Suffixed ask n w ys stem
       → map textOf xs ≡ map textOf ys → xs ≡ ys
   strips-unique n l w [] [] stem p q e = refl
   strips-unique n l w [] (y ∷ ys) stem p q e = absurd (nil≢cons e)
@@ -64,7 +64,7 @@ module _ (ask : Ask) where
       let i = p .0 in
       let j = q .0 in
       let t = textOf x in
-      let k : x .row < 25 = omega arith in
+      let k : x .row < allRows = omega arith in
       let r : x .row ≡ y .row = text-row (x .row) (y .row) k (omega arith) (head-eq-of-cons-eq e) in
       let a : Suffixed ask (rowsAfter (x .row)) (kept (x .isShared) w t) xs stem =
       subst (λ (s : List ℕ). Suffixed ask (rowsAfter (x .row)) s xs stem) (left-says w x (p .2 .0) (p .2 .1) .1) (p .2 .2) in
@@ -103,7 +103,7 @@ unique ask w p q a b e =
     let s : p .stem ≡ q .stem = ap (λ (r : Parts). r .stem) e in
     let t : p .root ≡ q .root = ap (λ (r : Parts). r .root) e in
     let x : p .strips ≡ q .strips =
-    strips-unique ask 25 (omega arith) w (p .strips) (q .strips) (q .stem) (subst (Suffixed ask 25 w (p .strips)) s (a .suffixed)) (b .suffixed)
+    strips-unique ask allRows (omega arith) w (p .strips) (q .strips) (q .stem) (subst (Suffixed ask allRows w (p .strips)) s (a .suffixed)) (b .suffixed)
     (reverse-back (map textOf (p .strips)) (map textOf (q .strips)) (ap (λ (r : Parts). r .suffixes) e)) in
     let y : p .prefixRows ≡ q .prefixRows =
     rows-unique ask (q .stem) (p .prefixRows) (q .prefixRows) (p .root) (q .root)

@@ -14,9 +14,10 @@ use Rattle.progressive.specs.Progressive.{isProgressive}
 use Rattle.ranking.specs.declared.Segment.{Segment}
 use Rattle.ranking.specs.declared.Reading.{Reading}
 use Rattle.paths.specs.Support.{isSupported}
-use Rattle.paths.specs.Chains.{Strip, leftBy, allRows, rowsAfter, formOf, Route}
-use Rattle.paths.specs.Readings.{segmentOf, noSegment, filled, readingOf}
-use Rattle.paths.specs.Walk.{pushedOf, recordOf, rootWalk, onLeft, overForms, secondWalk, stemWalk, rowWalk, rowsWalk, pieceWalk, wordWalk}
+use Rattle.paths.specs.Chains.{allForms, Strip, leftBy, allRows, rowsAfter, formOf, Route}
+use Rattle.paths.specs.Readings.{segmentOf, filled, chainOf, readingOf}
+use Rattle.ranking.specs.Stored.{noSegment}
+use Rattle.paths.specs.Walk.{pushedOf, recordOf, rootWalk, onLeft, overForms, secondWalk, stemWalk, stripWalk, rowWalk, rowsWalk, pieceWalk, wordWalk}
 use Rattle.paths.specs.declared.Chain.{Chain}
 use Rattle.paths.proofs.Routes.{overRows, Front, behind, bare, frontsAt, frontsFrom, stemRoute, under, stripped, plainly, sharing, routesAt, routesFrom, routes}
 
@@ -71,24 +72,20 @@ module _ (ask : Ask) (surface : ℕ) (c : Chain) (stem : List ℕ) where
   deeper-is : (outer : List ℕ) (depth : ℕ) (f : ℕ → List ℕ → List Reading)
       → ((row : ℕ) (left : List ℕ) → f row left ≡ map (λ (t : Front). told outer (behind row t)) (frontsFrom depth ask left))
       → (piece : List ℕ)
-      → rootWalk ask surface c stem outer piece ++ pick (isProgressive ask piece) [] (overForms f piece 0 30)
+      → rootWalk ask surface c stem outer piece ++ pick (isProgressive ask piece) [] (overForms f piece 0 allForms)
       ≡ map (told outer) (frontsFrom (suc depth) ask piece)
   unfolding frontsFrom
   deeper-is outer depth f e piece =
-      joined-is (told outer) (isProgressive ask piece) _ _ (bare ask piece) (overRows (frontsAt (frontsFrom depth ask) piece) 0 30) (bare-is outer piece)
-      (forms-over f piece 0 30 ∙ over-is (told outer) _ (frontsAt (frontsFrom depth ask) piece) (λ row.
+      joined-is (told outer) (isProgressive ask piece) _ _ (bare ask piece) (overRows (frontsAt (frontsFrom depth ask) piece) 0 allForms) (bare-is outer piece)
+      (forms-over f piece 0 allForms ∙ over-is (told outer) _ (frontsAt (frontsFrom depth ask) piece) (λ row.
       left-is (λ (t : Front). told outer (behind row t)) (f row) (frontsFrom depth ask) (e row) (prefixRemainder piece (formOf row))
-      ∙ sym (map-map (told outer) (behind row) (onLeft (frontsFrom depth ask) (prefixRemainder piece (formOf row))))) 0 30)
+      ∙ sym (map-map (told outer) (behind row) (onLeft (frontsFrom depth ask) (prefixRemainder piece (formOf row))))) 0 allForms)
 
   stem-is : stemWalk ask surface c stem ≡ map (told []) (frontsFrom 2 ask stem)
   unfolding stemWalk secondWalk frontsFrom
   stem-is = deeper-is [] 1 _ (λ row left. deeper-is (row ∷ []) 0 _ (λ second last. bare-is (row ∷ second ∷ []) last) left) stem
 
 -- The walk over suffixes.
-
--- the chain after these strips, outermost first
-abbrev pub chainOf : Ask → List Strip → Chain
-chainOf ask strips = record { segments = filled 4 noSegment (reverse (map (segmentOf ask) strips)); count = length strips }
 
 -- the record of a route that goes on after these strips
 abbrev pub recordIn : Ask → ℕ → List Strip → Route → Reading
@@ -129,7 +126,7 @@ module _ (ask : Ask) (surface : ℕ) where
       → ((o : List Strip) (rows : ℕ) (left : List ℕ)
       → pieceWalk depth ask surface (chainOf ask o) rows left ≡ map (recordIn ask surface o) (routesFrom depth ask rows left))
       → (piece : List ℕ) (x : Strip)
-      → onLeft (pieceWalk depth ask surface (pushedOf (chainOf ask outer) (segmentOf ask x)) (rowsAfter (x .row))) (leftBy piece x)
+      → stripWalk (pieceWalk depth ask surface) ask (chainOf ask outer) piece x
       ≡ map (recordIn ask surface outer) (stripped (routesFrom depth ask) piece x)
   strip-is depth outer e piece x =
       ap (λ (c : Chain). onLeft (pieceWalk depth ask surface c (rowsAfter (x .row))) (leftBy piece x)) (pushed-is ask outer x)

@@ -28,10 +28,21 @@ textOf x = getD affixes (x .row) []
 abbrev pub leftBy : List ℕ → Strip → List (List ℕ)
 leftBy piece x = pick (x .isShared) (shared piece (textOf x)) (plain piece (textOf x))
 
--- how many rows, from the first on, may be stripped next: all 25 at first; after a particle or a case marker the case and plural
--- markers; after a plural marker none
+-- the rows of suffix texts and of prefix forms, and how many of each a path strips at most
 abbrev pub allRows : ℕ
 allRows = 25
+
+abbrev pub allForms : ℕ
+allForms = 30
+
+abbrev pub mostStrips : ℕ
+mostStrips = 4
+
+abbrev pub mostPrefixes : ℕ
+mostPrefixes = 2
+
+-- how many rows, from the first on, may be stripped next: all at first; after a particle or a case marker the case and plural
+-- markers; after a plural marker none
 
 abbrev pub rowsAfter : ℕ → ℕ
 rowsAfter row = pick (ltb row 2) 0 18
@@ -52,7 +63,7 @@ formOf row = getD prefixForms row []
 abbrev pub Prefixed : Ask → List ℕ → List ℕ → List ℕ → Type 0
 Prefixed ask piece [] root = piece ≡ root
 Prefixed ask piece (row ∷ rows) root =
-    (row < 30)
+    (row < allForms)
     × (isProgressive ask piece ≡ false)
     × ((left : List ℕ) × (prefixRemainder piece (formOf row) ≡ left ∷ []) × Prefixed ask left rows root)
 
@@ -65,8 +76,8 @@ pub record Route : Type 0 where
 
 -- a path of the word w: at most 4 strips lead from it to the stem, at most 2 prefix rows from there to the root, which is supported
 pub record PathOf (ask : Ask) (w : List ℕ) (p : Route) : Type 0 where
-  pub fewStrips : length (p .strips) ≤ 4
+  pub fewStrips : length (p .strips) ≤ mostStrips
   pub suffixed : Suffixed ask allRows w (p .strips) (p .stem)
-  pub fewPrefixes : length (p .prefixRows) ≤ 2
+  pub fewPrefixes : length (p .prefixRows) ≤ mostPrefixes
   pub prefixed : Prefixed ask (p .stem) (p .prefixRows) (p .root)
   pub supported : isSupported ask (p .root) ≡ true

@@ -10,6 +10,7 @@ use Rattle.tables.specs.Tables.{affixes}
 use Rattle.sheet.specs.Forms.{syllableNu}
 use Rattle.sheet.specs.Replies.{told, Ask}
 use Rattle.progressive.specs.Progressive.{rahanu, virama, letterU}
+use Rattle.paths.specs.Chains.{allRows}
 
 -- p is a part of w of whole characters, which may be empty
 pub record Part (w p : List ℕ) : Type 0 where
@@ -28,11 +29,11 @@ pub record Run (w p : List ℕ) : Type 0 where
 -- the word's own questions, each a first letter and a name
 pub data Own (ask : Ask) (w : List ℕ) : ℕ → List ℕ → Type 0 where
   alone : (p : List ℕ) → Run w p → Own ask w 0x77 p
-  with-text : (p : List ℕ) → Run w p → (k : ℕ) → k < 25 → Own ask w 0x77 (p ++ getD affixes k [])
+  with-text : (p : List ℕ) → Run w p → (k : ℕ) → k < allRows → Own ask w 0x77 (p ++ getD affixes k [])
   with-nu : (p : List ℕ) → Run w p → Own ask w 0x77 (p ++ syllableNu)
   with-virama : (p : List ℕ) → Run w p → Own ask w 0x77 (p ++ (virama ++ syllableNu))
   with-u : (p : List ℕ) → Run w p → Own ask w 0x77 (p ++ (letterU ++ syllableNu))
   of-rahanu : Own ask w 0x77 rahanu
   link : (p : List ℕ) → Run w p → Own ask w 0x6C p
   infinitive : (p v : List ℕ) → Run w p → ask 0x6C p ≡ told v → Own ask w 0x77 v
-  kind : (k : ℕ) → k < 25 → Own ask w 0x6B (getD affixes k [])
+  kind : (k : ℕ) → k < allRows → Own ask w 0x6B (getD affixes k [])

@@ -17,9 +17,12 @@ use Rattle.lookup.specs.declared.answers.SheetKind.the-variants.{Unlisted, Post
 use Rattle.ranking.specs.declared.AffixKind.{AffixKind}
 use Rattle.ranking.specs.declared.AffixKind.the-variants.{Particle, CaseMarker, PluralMarker, Postposition, ComparisonMarker}
 use Rattle.ranking.specs.declared.Segment.{Segment}
+use Rattle.ranking.specs.Stored.{noSegment}
 use Rattle.ranking.specs.declared.Reading.{Reading}
 use Rattle.paths.specs.Support.{scoreOf}
-use Rattle.paths.specs.Chains.{Strip, textOf, Route, PathOf}
+use Rattle.paths.specs.Chains.{mostStrips, mostPrefixes, Strip, textOf, Route, PathOf}
+use Rattle.paths.specs.declared.Chain.{Chain}
+use Rattle.paths.specs.declared.Prefixes.{Prefixes}
 
 -- the four parts by which readings are told apart: suffix labels stand nearest the stem first, prefix labels outermost first
 pub record Parts : Type 0 where
@@ -55,21 +58,30 @@ kindOf ask row = overridden (kindTold (ask 0x6B (getD affixes row []))) (groupKi
 abbrev pub segmentOf : Ask → Strip → Segment
 segmentOf ask x = record { label = x .row; kind = kindOf ask (x .row) }
 
-abbrev pub noSegment : Segment
-noSegment = record { label = 0; kind = Particle }
-
 -- exactly n of xs, filled up with d
 abbrev pub filled : {A : Type 0} → ℕ → A → List A → List A
 filled n d xs = take n (xs ++ replicate n d)
 
+-- the suffixes of these strips, nearest the stem first, and these prefix rows, each in its places
+abbrev pub chainOf : Ask → List Strip → Chain
+chainOf ask strips = record { segments = filled mostStrips noSegment (reverse (map (segmentOf ask) strips)); count = length strips }
+
+abbrev pub prefixesOf : List ℕ → Prefixes
+prefixesOf rows = record { rows = filled mostPrefixes 0 rows; count = length rows }
+
+-- how every reading is built: the stem is the word's first `stem` bytes, and the root what stands in the stem from byte `at` on
+abbrev pub built : Ask → ℕ → ℕ → ℕ → List ℕ → Prefixes → Chain → Reading
+built ask surface stem at root prefixes chain = record {
+  stem = stem;
+  root = at;
+  score = scoreOf ask surface root (prefixes .count) (chain .count);
+  prefixes = prefixes .rows;
+  segments = chain .segments;
+  «prefix_count» = prefixes .count;
+  «suffix_count» = chain .count;
+}
+
 -- the record of a path: the stem is a front part of the word, and the root what ends it
 unfoldable pub readingOf : Ask → List ℕ → Route → Reading
-readingOf ask w p = record {
-  stem = length (p .stem);
-  root = length (p .stem) - length (p .root);
-  score = scoreOf ask (chars w) (p .root) (length (p .prefixRows)) (length (p .strips));
-  prefixes = filled 2 0 (p .prefixRows);
-  segments = filled 4 noSegment (reverse (map (segmentOf ask) (p .strips)));
-  «prefix_count» = length (p .prefixRows);
-  «suffix_count» = length (p .strips);
-}
+readingOf ask w p =
+    built ask (chars w) (length (p .stem)) (length (p .stem) - length (p .root)) (p .root) (prefixesOf (p .prefixRows)) (chainOf ask (p .strips))

@@ -31,7 +31,12 @@ abbrev pub points : Bool → ℕ → ℕ
 points b n = pick b n 0
 
 -- w 100, h 150, appended form known 60, 20 a prefix, 15 a suffix, 10 if any affix, and the characters of the surface
+abbrev pub scoreFor : Bool → Bool → Bool → ℕ → ℕ → ℕ → ℕ
+scoreFor word head sibling prefixes suffixes surface =
+    points word 100 + points head 150 + points sibling 60
+    + 20 * prefixes + 15 * suffixes + points (ltb 0 (prefixes + suffixes)) 10 + surface
+
+-- the score of a root with so many affixes
 unfoldable pub scoreOf : Ask → ℕ → List ℕ → ℕ → ℕ → ℕ
 scoreOf ask surface root prefixes suffixes =
-    points (lettersBy ask root .word) 100 + points (lettersBy ask root .head) 150 + points (hasSibling ask root) 60
-    + 20 * prefixes + 15 * suffixes + points (ltb 0 (prefixes + suffixes)) 10 + surface
+    scoreFor (lettersBy ask root .word) (lettersBy ask root .head) (hasSibling ask root) prefixes suffixes surface

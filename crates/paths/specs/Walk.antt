@@ -5,15 +5,15 @@ use mathlib.Core.Bool.{Bool, true, false}
 use mathlib.Core.List.{List, [], _∷_, _++_}
 use lib.ListN.{length, take, getD}
 use Rattle.runs.specs.Runs.{pick}
-use Rattle.tables.specs.Tables.{affixes}
 use Rattle.strips.specs.Prefix.{prefixRemainder}
 use Rattle.sheet.specs.Replies.{Ask}
 use Rattle.progressive.specs.Progressive.{isProgressive}
 use Rattle.ranking.specs.declared.Segment.{Segment}
+use Rattle.ranking.specs.Stored.{noSegment}
 use Rattle.ranking.specs.declared.Reading.{Reading}
-use Rattle.paths.specs.Support.{isSupported, scoreOf}
-use Rattle.paths.specs.Chains.{Strip, textOf, leftBy, allRows, rowsAfter, formOf}
-use Rattle.paths.specs.Readings.{kindOf, segmentOf, noSegment, filled}
+use Rattle.paths.specs.Support.{isSupported}
+use Rattle.paths.specs.Chains.{allRows, allForms, mostStrips, Strip, leftBy, rowsAfter, formOf}
+use Rattle.paths.specs.Readings.{segmentOf, built, prefixesOf}
 use Rattle.paths.specs.declared.Chain.{Chain}
 
 -- no suffix stripped yet
@@ -29,15 +29,7 @@ pushedOf c s = record {
 
 -- the record of a stem and a root with their affixes
 abbrev pub recordOf : Ask → ℕ → Chain → List ℕ → List ℕ → List ℕ → Reading
-recordOf ask surface c stem rows root = record {
-  stem = length stem;
-  root = length stem - length root;
-  score = scoreOf ask surface root (length rows) (c .count);
-  prefixes = filled 2 0 rows;
-  segments = c .segments;
-  «prefix_count» = length rows;
-  «suffix_count» = c .count;
-}
+recordOf ask surface c stem rows root = built ask surface (length stem) (length stem - length root) root (prefixesOf rows) c
 
 -- the reading with this root, where the root is supported
 unfoldable pub rootWalk : Ask → ℕ → Chain → List ℕ → List ℕ → List ℕ → List Reading
@@ -57,19 +49,22 @@ overForms f piece row (suc n) = onLeft (f row) (prefixRemainder piece (formOf ro
 unfoldable pub secondWalk : Ask → ℕ → Chain → List ℕ → ℕ → List ℕ → List Reading
 secondWalk ask surface c stem first piece =
     rootWalk ask surface c stem (first ∷ []) piece
-    ++ pick (isProgressive ask piece) [] (overForms (λ second left. rootWalk ask surface c stem (first ∷ second ∷ []) left) piece 0 30)
+    ++ pick (isProgressive ask piece) [] (overForms (λ second left. rootWalk ask surface c stem (first ∷ second ∷ []) left) piece 0 allForms)
 
 -- the stem alone, then its prefixes
 unfoldable pub stemWalk : Ask → ℕ → Chain → List ℕ → List Reading
 stemWalk ask surface c stem =
     rootWalk ask surface c stem [] stem
-    ++ pick (isProgressive ask stem) [] (overForms (λ first left. secondWalk ask surface c stem first left) stem 0 30)
+    ++ pick (isProgressive ask stem) [] (overForms (λ first left. secondWalk ask surface c stem first left) stem 0 allForms)
+
+-- one strip, and what is done with what it leaves
+abbrev pub stripWalk : (Chain → ℕ → List ℕ → List Reading) → Ask → Chain → List ℕ → Strip → List Reading
+stripWalk deeper ask c piece x = onLeft (deeper (pushedOf c (segmentOf ask x)) (rowsAfter (x .row))) (leftBy piece x)
 
 -- one row stripped: plain, then shared
 abbrev pub rowWalk : (Chain → ℕ → List ℕ → List Reading) → Ask → Chain → List ℕ → ℕ → List Reading
 rowWalk deeper ask c piece row =
-    onLeft (deeper (pushedOf c (record { label = row; kind = kindOf ask row })) (rowsAfter row)) (leftBy piece (record { row = row; isShared = false }))
-    ++ onLeft (deeper (pushedOf c (record { label = row; kind = kindOf ask row })) (rowsAfter row)) (leftBy piece (record { row = row; isShared = true }))
+    stripWalk deeper ask c piece (record { row = row; isShared = false }) ++ stripWalk deeper ask c piece (record { row = row; isShared = true })
 
 -- n rows from `row` on
 unfoldable pub rowsWalk : (Chain → ℕ → List ℕ → List Reading) → Ask → Chain → List ℕ → ℕ → ℕ → List Reading
@@ -86,4 +81,4 @@ pieceWalk (suc depth) ask surface c rows piece =
 
 -- the readings of the word
 abbrev pub wordWalk : Ask → ℕ → List ℕ → List Reading
-wordWalk ask surface w = pieceWalk 4 ask surface emptyChain allRows w
+wordWalk ask surface w = pieceWalk mostStrips ask surface emptyChain allRows w

@@ -1,4 +1,4 @@
--- Rows passed one by one, and a row put in while the others are carried on. The proofs of `place`, `insert_at` and `add` cite these;
+-- Rows passed one by one, and a row put in while the others are carried on. The proofs of `place`, `insert_at` and `store` cite these;
 -- those on lists hold for every element. Assumes nothing.
 use Prim.Native.Nat.{ℕ, zero, suc, _+_, _<_, _≤_}
 use native.Mathlib.Omega.{arith}
@@ -9,14 +9,15 @@ use mathlib.Core.Bool.{Bool, true, false}
 use mathlib.Core.List.{List, [], _∷_, _++_}
 use lib.ListN.{length, take, drop, getD, set, drop-of-length-le}
 use lib.Seq.{drop-cons, getD-take, length-take-le, take-all}
-use borrow.Author.Tests.{lt-ltb}
+use lib.Dec.{ltb}
+use borrow.Author.Tests.{lt-ltb, le-ltb, ltb-false}
 use Rattle.runs.specs.Runs.{pick}
 use Rattle.ranking.specs.Rank.{aheadOf}
-use Rattle.ranking.specs.Lists.{ranked, rowsOf, rows, over, plus, foundOf}
-use Rattle.ranking.specs.declared.Listing.{Listing}
-use Rattle.ranking.specs.declared.Found.{Found}
+use Rattle.ranking.specs.Lists.{listLimit, ranked, rows, over, plus}
+use Rattle.ranking.specs.Kept.{rowsIn, keptOf}
 use Rattle.ranking.specs.Places.{placeIn, putIn}
 use Rattle.ranking.specs.declared.Reading.{Reading}
+use Rattle.ranking.proofs.Backs.{rows-length}
 
 -- the first n elements from the i-th on
 module _ {A : Type 0} (xs : List A) (n : ℕ) (d : A) (fits : n ≤ length xs) where
@@ -82,21 +83,46 @@ module _ {A : Type 0} where
       go (x ∷ xs) (suc i) (suc n) a h k = ap (λ (l : List A). x ∷ l) (go xs i n a (le-of-suc-le-suc h) (le-of-suc-le-suc k))
 
 -- one reading more: too many already, too many now, or in its place
-module _ (w : List ℕ) (f : Found) (r : Reading) where
-  pub plus-over : f .over ≡ true → foundOf f ≡ plus w (foundOf f) r
+-- too many stay too many, and 64 are full
+module _ (w : List ℕ) (r : Reading) where
+  plus-over : over ≡ plus w over r
   unfolding plus
-  plus-over e = rw e
+  plus-over = refl
 
-  module _ (e : f .over ≡ false) (l : length (f .list .rows) ≡ 64) where
-    pub plus-full : 64 ≤ f .list .count → over ≡ plus w (foundOf f) r
-    unfolding plus
-    plus-full h =
-        let n : take (f .list .count) (f .list .rows) ≡ f .list .rows = take-all (f .list .count) (f .list .rows) (omega arith) in
-        rw (e, n, l)
+  plus-full : (xs : List Reading) → length xs ≡ listLimit → over ≡ plus w (rows xs) r
+  unfolding plus
+  plus-full xs e = rw e
 
-    pub plus-room : (list : Listing) (at : ℕ) → f .list .count < 64 → at ≡ placeIn w r (rowsOf (f .list)) → rowsOf list ≡ putIn (rowsOf (f .list)) at r
-        → rows (rowsOf list) ≡ plus w (foundOf f) r
-    unfolding plus
-    plus-room list at h p q =
-        let n : length (take (f .list .count) (f .list .rows)) ≡ f .list .count = length-take-le (f .list .count) (f .list .rows) (omega arith) in
-        rw (e, n, lt-ltb (f .list .count) 64 h, q, p, ranked-put w r (rowsOf (f .list)))
+-- what is kept in a buffer
+module _ (w out later : List ℕ) (n : ℕ) (r : Reading) where
+  -- one more than a full list
+  pub kept-full : listLimit ≤ n → keptOf later (listLimit + 1) ≡ plus w (keptOf out n) r
+  unfolding keptOf plus
+  kept-full h = by (ltb listLimit n) refl
+    where
+      by : (b : Bool) → ltb listLimit n ≡ b → over ≡ plus w (pick b over (rows (take n (rowsIn out)))) r
+      by true e = plus-over w r
+      by false e =
+          let k : n ≤ listLimit = ltb-false listLimit n e in
+          let l : length (take n (rowsIn out)) ≡ listLimit = length-take-le n (rowsIn out) (omega (arith, rows-length out)) ∙ omega arith in
+          plus-full w r (take n (rowsIn out)) l
+
+  pub kept-room : (at : ℕ) → n < listLimit → at ≡ placeIn w r (take n (rowsIn out)) → take (n + 1) (rowsIn later) ≡ putIn (take n (rowsIn out)) at r
+      → keptOf later (n + 1) ≡ plus w (keptOf out n) r
+  unfolding keptOf plus
+  kept-room at h p q =
+      let l : length (take n (rowsIn out)) ≡ n = length-take-le n (rowsIn out) (omega (arith, rows-length out)) in
+      rw (le-ltb listLimit n (omega arith), le-ltb listLimit (n + 1) (omega arith), l, lt-ltb n listLimit h, q, p, ranked-put w r (take n (rowsIn out)))
+
+module _ (out : List ℕ) where
+  pub kept-none : keptOf out 0 ≡ rows []
+  unfolding keptOf
+  kept-none = refl
+
+  pub kept-over : (n : ℕ) → listLimit < n → over ≡ keptOf out n
+  unfolding keptOf
+  kept-over n h = rw (lt-ltb listLimit n h)
+
+  pub kept-rows : (n : ℕ) (xs : List Reading) → n ≤ listLimit → xs ≡ take n (rowsIn out) → rows xs ≡ keptOf out n
+  unfolding keptOf
+  kept-rows n xs h e = rw (le-ltb listLimit n h, e)

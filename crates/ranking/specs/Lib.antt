@@ -2,3 +2,5 @@ pub mod Parts
 pub mod Rank
 pub mod Lists
 pub mod Places
+pub mod Stored
+pub mod Kept

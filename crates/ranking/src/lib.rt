@@ -1,4 +1,7 @@
 // Readings of a word, and their list by value: at most 64, in rank order.
+pub mod kept;
+pub mod rows;
+
 use runs::Order;
 use runs::compare;
 ghost use mathlib.Core.Path.{_≡_};
@@ -8,8 +11,11 @@ ghost use lib.ListN.{length, take, drop};
 ghost use Rattle.ranking.specs.Parts.{part};
 ghost use Rattle.runs.specs.Runs.{cmp};
 ghost use Rattle.ranking.specs.Rank.{isLess, stemText, rootText, aheadOf};
-ghost use Rattle.ranking.specs.Lists.{listLimit, rowsOf, rows, plus, foundOf};
-ghost use Rattle.ranking.specs.Places.{placeIn, putIn};
+ghost use Rattle.ranking.specs.Lists.{rowsOf, rows, foundOf};
+ghost use Rattle.ranking.specs.Stored.{noSegment};
+
+// The most readings that a list holds.
+pub const LIMIT: usize = 64;
 
 // The kind of a suffix.
 pub enum AffixKind {
@@ -41,7 +47,7 @@ pub struct Reading {
 
 // A list of readings: the first `count` rows.
 pub struct Listing {
-    pub rows: [Reading; 64],
+    pub rows: [Reading; LIMIT],
     pub count: usize,
 }
 
@@ -130,71 +136,21 @@ pub fn ahead(word: &[u8], a: Reading, b: Reading) -> bool
     root_less(word, a, b)
 }
 
-// The first row that r is ahead of, or the count where there is none.
-fn place(word: &[u8], list: Listing, r: Reading) -> usize
-    requires { ⌜ list .count ≤ listLimit ⌝ }
-    ensures { λ p. ⌜ (p ≡ placeIn (now (word .entry)) r (rowsOf list)) × (p ≤ list .count) ⌝ }
+// What stands in a place for a suffix that is not used.
+pub fn blank() -> Segment
+    ensures { λ s. ⌜ s ≡ noSegment ⌝ }
 {
-    let n = list.count;
-    let mut i = 0;
-    while i < n {
-        let x = list.rows[i];
-        if ahead(word, r, x) {
-            return i;
-        }
-        i += 1;
-    }
-    i
-}
-
-// The list with r put in at a row, and the rows from there on moved by one: each is carried on to the next.
-fn insert_at(list: Listing, at: usize, r: Reading) -> Listing
-    requires { ⌜ (at ≤ list .count) × (list .count < listLimit) ⌝ }
-    ensures { λ l. ⌜ (rowsOf l ≡ putIn (rowsOf list) at r) × (l .count ≡ list .count + 1) ⌝ }
-{
-    let n = list.count;
-    let mut next = list;
-    let mut carry = r;
-    let mut i = at;
-    while i < n {
-        let x = next.rows[i];
-        next.rows[i] = carry;
-        carry = x;
-        i += 1;
-    }
-    next.rows[n] = carry;
-    next.count = n + 1;
-    next
-}
-
-// What has been collected with one reading more, in its place by rank, or the mark that there are too many. Free: the rows past the
-// count, and all rows once there are too many.
-pub fn add(word: &[u8], found: Found, r: Reading) -> Found
-    ensures { λ f. ⌜ foundOf f ≡ plus (now (word .entry)) (foundOf found) r ⌝ }
-{
-    if found.over {
-        return found;
-    }
-    let list = found.list;
-    if 64 <= list.count {
-        return Found { list, over: true };
-    }
-    let at = place(word, list, r);
-    let next = insert_at(list, at, r);
-    Found {
-        list: next,
-        over: false,
+    Segment {
+        label: 0,
+        kind: AffixKind::Particle,
     }
 }
 
 // Nothing collected. Free: the rows, all past the count.
 pub fn nothing() -> Found
-    ensures { λ f. ⌜ (foundOf f ≡ rows []) × (rowsOf (f .list) ≡ []) ⌝ }
+    ensures { λ f. ⌜ (foundOf f ≡ rows []) × (rowsOf (f .list) ≡ []) × (f .list .count ≡ 0) ⌝ }
 {
-    let s = Segment {
-        label: 0,
-        kind: AffixKind::Particle,
-    };
+    let s = blank();
     let r = Reading {
         stem: 0,
         root: 0,
@@ -205,7 +161,7 @@ pub fn nothing() -> Found
         suffix_count: 0,
     };
     let list = Listing {
-        rows: [r; 64],
+        rows: [r; LIMIT],
         count: 0,
     };
     Found { list, over: false }

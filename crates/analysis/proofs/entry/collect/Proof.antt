@@ -2,13 +2,17 @@
 use Prim.Native.Nat.{ℕ, _≤_}
 use native.Mathlib.Omega.{arith}
 use mathlib.Core.Path.{_≡_, refl, sym, ap, _∙_}
-use mathlib.Core.List.{List, []}
+use mathlib.Core.List.{List, [], _∷_}
 use lib.ListN.{length, take}
 use lib.Seq.{take-length}
-use Rattle.sheet.specs.Replies.{reply}
+use Rattle.sheet.specs.Replies.{Ask, reply}
 use Rattle.ranking.specs.Lists.{Rows, rows, plusAll}
-use Rattle.paths.specs.Chains.{allRows}
-use Rattle.paths.specs.Walk.{emptyChain, pieceWalk}
+use Rattle.ranking.specs.declared.Segment.{Segment}
+use Rattle.ranking.specs.Stored.{noSegment}
+use Rattle.ranking.specs.Kept.{keptOf}
+use Rattle.ranking.proofs.Puts.{kept-none}
+use Rattle.paths.specs.Chains.{allRows, mostStrips}
+use Rattle.paths.specs.Walk.{emptyChain, pieceWalk, wordWalk}
 use Rattle.paths.proofs.Score.{chars-most}
 use Rattle.analysis.proofs.Accepted.{word-parts}
 use borrow.Author.Needs.{needs}
@@ -52,12 +56,19 @@ slice-aggregate-visit-3 c = search needs
 slice-aggregate-visit-4 : tie.Need-slice-aggregate-visit-4
 slice-aggregate-visit-4 c = search needs
 
-nothing-requires : tie.Need-nothing-requires
-nothing-requires c κs = search needs
+slice-aggregate-visit-5 : tie.Need-slice-aggregate-visit-5
+slice-aggregate-visit-5 c = search needs
+
+blank-requires : tie.Need-blank-requires
+blank-requires c κs = tt
+
+-- the place where the surface has been counted, seen from where the walk begins
+abbrev counted : tie.After-out → tie.After-count
+counted c = c .before .before .before .before .before .before
 
 visit-requires : tie.Need-visit-requires
 visit-requires c κs =
-    let n = c .before .before .before .before .before in
+    let n = counted c in
     let a = n .before .before .before .before .before .before .before .before in (
       record {
         indexed = a .pre .1;
@@ -69,16 +80,35 @@ visit-requires c κs =
       few n,
       omega arith,
       omega arith,
+      (omega arith, omega arith),
     )
+
+slice-aggregate-found : tie.Need-slice-aggregate-found
+slice-aggregate-found c = search needs
+
+found-requires : tie.Need-found-requires
+found-requires c κs = search needs
+
+-- what is kept at first, and the chain that the walk begins with
+begun : (w out : List ℕ) (ask : Ask) (surface : ℕ) (s : Segment) → s ≡ noSegment
+    → plusAll w (keptOf out 0) (pieceWalk mostStrips ask surface (record { segments = s ∷ s ∷ s ∷ s ∷ []; count = 0 }) allRows (take (length w) w))
+    ≡ plusAll w (rows []) (wordWalk ask surface w)
+begun w out ask surface s e =
+    ap (λ (x : Rows). plusAll w x (pieceWalk mostStrips ask surface (record { segments = s ∷ s ∷ s ∷ s ∷ []; count = 0 }) allRows (take (length w) w))) (kept-none out)
+    ∙ ap (λ (x : Segment). plusAll w (rows []) (pieceWalk mostStrips ask surface (record { segments = x ∷ x ∷ x ∷ x ∷ []; count = 0 }) allRows (take (length w) w))) e
+    ∙ ap (λ (x : List ℕ). plusAll w (rows []) (pieceWalk mostStrips ask surface emptyChain allRows x)) (take-length w)
 
 returns : tie.Need-returns
 returns c =
-    let n = c .before .before .before .before .before .before in
-    let a = n .before .before .before .before .before .before .before .before .args in
-    c .visit .ensures
-    ∙ ap (λ (x : Rows). plusAll (a .word .now) x (pieceWalk 4 (reply (a .sheet .now)) (n .count .result) emptyChain allRows (take (length (a .word .now)) (a .word .now)))) (c .before .nothing .ensures .0)
-    ∙ ap (λ (x : List ℕ). plusAll (a .word .now) (rows []) (pieceWalk 4 (reply (a .sheet .now)) (n .count .result) emptyChain allRows x)) (take-length (a .word .now))
-    ∙ ap (λ (k : ℕ). plusAll (a .word .now) (rows []) (pieceWalk 4 (reply (a .sheet .now)) k emptyChain allRows (a .word .now))) (n .count .ensures)
+    let v = c .before .before .before in
+    let n = counted (v .before) in
+    let a = n .before .before .before .before .before .before .before .before .args in (
+      c .found .ensures .0
+          ∙ v .visit .ensures .0
+          ∙ begun (a .word .now) _ (reply (a .sheet .now)) (n .count .result) _ (v .before .before .before .before .before .before .blank .ensures)
+          ∙ ap (λ (k : ℕ). plusAll (a .word .now) (rows []) (wordWalk (reply (a .sheet .now)) k (a .word .now))) (n .count .ensures),
+      c .found .ensures .1,
+    )
 
 pub collect-spec : {M : Type 1} → statement M
 collect-spec =
@@ -90,10 +120,13 @@ collect-spec =
     prefix-form-starts-requires
     count-requires
     cast-surface
+    blank-requires
     slice-aggregate-visit
     slice-aggregate-visit-2
     slice-aggregate-visit-3
     slice-aggregate-visit-4
-    nothing-requires
+    slice-aggregate-visit-5
     visit-requires
+    slice-aggregate-found
+    found-requires
     returns)

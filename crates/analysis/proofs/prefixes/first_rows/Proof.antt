@@ -1,16 +1,18 @@
 -- `analysis::prefixes::first_rows` meets its contract: what all rows add is what those to come add to what has been collected. Assumes nothing.
-use Prim.Native.Nat.{ℕ, _-_, _<_, _≤_}
+use Prim.Native.Nat.{ℕ, _+_, _-_, _<_, _≤_}
 use native.Mathlib.Omega.{arith}
 use mathlib.Core.Path.{_≡_, refl, sym, ap, _∙_}
 use mathlib.Core.List.{List}
-use lib.ListN.{take}
+use lib.ListN.{length, take}
+use borrow.Author.Needs.{needs}
 use Rattle.sheet.specs.Replies.{reply}
-use Rattle.ranking.specs.Lists.{foundOf, plusAll}
+use Rattle.ranking.specs.Lists.{listLimit, plusAll}
+use Rattle.ranking.specs.Kept.{keptOf}
 use Rattle.ranking.specs.declared.Reading.{Reading}
 use Rattle.paths.specs.declared.Chain.{Chain}
 use Rattle.paths.specs.Walk.{secondWalk, overForms}
 use Rattle.runs.specs.Runs.{beginsWith}
-use Rattle.paths.specs.Chains.{formOf}
+use Rattle.paths.specs.Chains.{allForms, formOf}
 use Rattle.analysis.proofs.Cuts.{whole-front}
 use Rattle.analysis.proofs.Turns.{form-turn, form-pass, form-end}
 use Rattle.analysis.proofs.prefixes.first_rows.Statement.{statement}
@@ -21,39 +23,48 @@ abbrev each : List ℕ → List ℕ → ℕ → Chain → ℕ → ℕ → List �
 each word sheet stem chain surface = secondWalk (reply sheet) surface chain (take stem word)
 
 abbrev Inv-loop : tie.InvT-loop
-Inv-loop word sheet starts texts cuts forms form-cuts stem chain surface f₀ k₀ f k =
-    (k ≤ 30)
-    × (plusAll word (foundOf f₀) (overForms (each word sheet stem chain surface) (take stem word) 0 30)
-    ≡ plusAll word (foundOf f) (overForms (each word sheet stem chain surface) (take stem word) k (30 - k)))
+Inv-loop word sheet starts texts cuts forms form-cuts at surface n out₀ stem f₀ k₀ out f k =
+    (k ≤ allForms) × (f ≤ listLimit + 1) × (length out ≡ length out₀)
+    × (plusAll word (keptOf out₀ f₀) (overForms (each word sheet (at .end) (at .chain) surface) (take (at .end) word) 0 allForms)
+    ≡ plusAll word (keptOf out f) (overForms (each word sheet (at .end) (at .chain) surface) (take (at .end) word) k (allForms - k)))
 
 abbrev μ-loop : tie.MeasureT-loop
-μ-loop word sheet starts texts cuts forms form-cuts stem chain surface f₀ k₀ f k = 30 - k
-
-loop-holds : tie.Need-loop-holds Inv-loop μ-loop
-loop-holds c = (omega arith, refl)
+μ-loop word sheet starts texts cuts forms form-cuts at surface n out₀ stem f₀ k₀ out f k = allForms - k
 
 -- the start of the function, seen from the loop
 abbrev start : tie.At-loop Inv-loop μ-loop → tie.Start Inv-loop μ-loop
-start c = c .before .before .before .before .before .before .before .before
+start c = c .before .before .before .before .before .before .before .before .before
+
+loop-holds : tie.Need-loop-holds Inv-loop μ-loop
+loop-holds c = (omega arith, c .before .before .before .before .before .before .before .before .pre .4 .1, refl, refl)
 
 begins-requires : tie.Need-begins-requires Inv-loop μ-loop
 begins-requires c κs = let p = start (c .before) .pre in (p .0 .forms-laid, omega arith, p .1, c .loop-test .taken)
 
 first-row-requires : tie.Need-first-row-requires Inv-loop μ-loop
-first-row-requires c κs = let i = c .before .before in let p = start (i .before) .pre in (p .0, p .1, i .loop-test .taken, p .2, p .3)
+first-row-requires c κs =
+    let i = c .before .before .before in
+    let k = i .before in
+    let p = start k .pre in
+    (p .0, p .1, i .loop-test .taken, p .2, p .3, (omega (arith, k .loop .inv .2, p .4 .0), k .loop .inv .1))
 
 add-k : tie.Need-add-k Inv-loop μ-loop
 add-k c = omega arith
 
 loop-less : tie.Need-loop-less Inv-loop μ-loop
-loop-less c = omega (arith, c .before .before .before .loop-test .taken)
+loop-less c = omega (arith, c .before .before .before .before .before .before .loop-test .taken)
 
 loop-again : tie.Need-loop-again Inv-loop μ-loop
 loop-again c =
-    let i = c .before .before .before in
+    let r = c .before .before in
+    let i = r .before .before .before .before in
     let k = i .before in
-    let a = start k .args in
-    (omega (arith, i .loop-test .taken), k .loop .inv .1 ∙ form-turn (a .word .now) (each (a .word .now) (a .sheet .now) (a .stem) (a .chain) (a .surface)) (take (a .stem) (a .word .now)) (k .loop .k) 30 (foundOf (k .loop .f)) _ (i .loop-test .taken) (c .first-row .ensures))
+    let a = start k .args in (
+      omega (arith, i .loop-test .taken),
+      r .first-row .ensures .1,
+      search needs,
+      k .loop .inv .3 ∙ form-turn (a .word .now) (each (a .word .now) (a .sheet .now) (a .at .end) (a .at .chain) (a .surface)) (take (a .at .end) (a .word .now)) (k .loop .k) allForms (keptOf (k .loop .out) (k .loop .f)) _ (i .loop-test .taken) (r .first-row .ensures .0),
+    )
 
 loop-less-2 : tie.Need-loop-less-2 Inv-loop μ-loop
 loop-less-2 c = omega (arith, c .before .before .loop-test .taken)
@@ -62,15 +73,22 @@ loop-again-2 : tie.Need-loop-again-2 Inv-loop μ-loop
 loop-again-2 c =
     let i = c .before .before in
     let k = i .before in
-    let a = start k .args in
-    (omega (arith, i .loop-test .taken), k .loop .inv .1 ∙ form-pass (a .word .now) (each (a .word .now) (a .sheet .now) (a .stem) (a .chain) (a .surface)) (take (a .stem) (a .word .now)) (k .loop .k) 30 (foundOf (k .loop .f)) (i .loop-test .taken) (ap (beginsWith (formOf (k .loop .k))) (sym (whole-front (a .word .now) (a .stem))) ∙ sym (c .before .begins .ensures) ∙ c .if1 .left))
+    let a = start k .args in (
+      omega (arith, i .loop-test .taken),
+      k .loop .inv .1,
+      k .loop .inv .2,
+      k .loop .inv .3 ∙ form-pass (a .word .now) (each (a .word .now) (a .sheet .now) (a .at .end) (a .at .chain) (a .surface)) (take (a .at .end) (a .word .now)) (k .loop .k) allForms (keptOf (k .loop .out) (k .loop .f)) (i .loop-test .taken) (ap (beginsWith (formOf (k .loop .k))) (sym (whole-front (a .word .now) (a .at .end))) ∙ sym (c .before .begins .ensures) ∙ c .if1 .left),
+    )
+
+same-length : tie.Need-same-length Inv-loop μ-loop
+same-length c = c .before .loop .inv .2
 
 returns : tie.Need-returns Inv-loop μ-loop
 returns c =
     let k = c .before in
     let a = start k .args in
-    sym (k .loop .inv .1 ∙ form-end (a .word .now) (each (a .word .now) (a .sheet .now) (a .stem) (a .chain) (a .surface)) (take (a .stem) (a .word .now)) (k .loop .k) 30 (foundOf (k .loop .f)) (c .loop-test .left))
+    (sym (k .loop .inv .3 ∙ form-end (a .word .now) (each (a .word .now) (a .sheet .now) (a .at .end) (a .at .chain) (a .surface)) (take (a .at .end) (a .word .now)) (k .loop .k) allForms (keptOf (k .loop .out) (k .loop .f)) (c .loop-test .left)), k .loop .inv .1)
 
 pub first-rows-spec : {M : Type 1} → statement M
 first-rows-spec =
-    tie.close (tie.spec Inv-loop μ-loop loop-holds add-k begins-requires first-row-requires loop-less loop-again loop-less-2 loop-again-2 returns)
+    tie.close (tie.spec Inv-loop μ-loop loop-holds add-k begins-requires first-row-requires loop-less loop-again loop-less-2 loop-again-2 same-length returns)

@@ -12,7 +12,8 @@ use Rattle.strips.specs.declared.prefix.Rest.{Rest}
 use Rattle.strips.specs.declared.prefix.Rest.the-variants.{Nothing, From}
 use Rattle.strips.proofs.Remainders.{rest-inside}
 use Rattle.sheet.specs.Replies.{reply}
-use Rattle.ranking.specs.Lists.{foundOf, plusAll}
+use Rattle.ranking.specs.Lists.{plusAll}
+use Rattle.ranking.specs.Kept.{keptOf}
 use Rattle.ranking.specs.declared.Reading.{Reading}
 use Rattle.paths.specs.Chains.{formOf}
 use Rattle.paths.specs.Walk.{rootWalk, onLeft}
@@ -23,7 +24,7 @@ use Rattle.analysis.proofs.prefixes.second_row.Statement.{statement}
 use Rattle.analysis.proofs.prefixes.second_row.Tie as tie
 
 row-requires : tie.Need-row-requires
-row-requires c κs = let a = c .before .before .before .before .before .before .before in laid-asks (a .pre .0 .forms-laid) (a .args .second) (omega (arith, prefix-form-count, a .pre .3))
+row-requires c κs = let a = c .before .before .before .before .before .before .before .before in laid-asks (a .pre .0 .forms-laid) (a .args .second) (omega (arith, prefix-form-count, a .pre .3))
 
 sub-prefix-rest : tie.Need-sub-prefix-rest
 sub-prefix-rest c = search needs
@@ -39,10 +40,10 @@ prefix-rest-requires c κs = search needs
 
 -- the start of the function, seen from the strip
 abbrev start : tie.After-prefix-rest → tie.Start
-start c = c .before .before .before .before .before .before .before .before .before .before
+start c = c .before .before .before .before .before .before .before .before .before .before .before
 
 abbrev piece : tie.After-prefix-rest → List ℕ
-piece c = between (start c .args .word .now) (start c .args .«from») (start c .args .stem)
+piece c = between (start c .args .word .now) (start c .args .«from») (start c .args .at .end)
 
 asked : (c : tie.After-prefix-rest) → c .prefix-rest .result ≡ restOf (piece c) (formOf (start c .args .second))
 asked c =
@@ -56,12 +57,12 @@ enum-known-rest : tie.Need-enum-known-rest
 enum-known-rest c = search needs
 
 -- the root begins inside the stem
-inside : (c : tie.After-rest) → let a = start (c .before .before) in a .args .«from» + c .rest .given .0 .0 ≤ a .args .stem
+inside : (c : tie.After-rest) → let a = start (c .before .before) in a .args .«from» + c .rest .given .0 .0 ≤ a .args .at .end
 inside c =
     let p = c .before .before in
     let a = start p in
     let n = rest-inside (piece p) (formOf (a .args .second)) (c .rest .given .0 .0) (sym (asked p) ∙ c .rest .given .1) in
-    let l : length (piece p) ≡ a .args .stem - a .args .«from» = between-length (a .args .word .now) (a .args .«from») (a .args .stem) (a .pre .1) (a .pre .2) in
+    let l : length (piece p) ≡ a .args .at .end - a .args .«from» = between-length (a .args .word .now) (a .args .«from») (a .args .at .end) (a .pre .1) (a .pre .2) in
     omega (arith, n, a .pre .1)
 
 add-root : tie.Need-add-root
@@ -81,27 +82,35 @@ has-supported-progressive-form-requires c κs = search needs
 
 with-root-requires : tie.Need-with-root-requires
 with-root-requires c κs =
-    let r = c .before .before .before in
+    let r = c .before .before .before .before in
     let a = start (r .before .before) in
-    (a .pre .0 .indexed, a .pre .0 .texts-laid, inside r, a .pre .2, a .pre .0 .short, a .pre .4, omega arith, a .pre .5, c .has-supported-progressive-form .ensures)
+    (a .pre .0 .indexed, a .pre .0 .texts-laid, inside r, a .pre .2, a .pre .0 .short, a .pre .4, omega arith, a .pre .5, c .before .has-supported-progressive-form .ensures, a .pre .6)
+
+same-length : tie.Need-same-length
+same-length c = search needs
 
 returns : tie.Need-returns
 unfolding plusAll
 returns c =
     let p = c .before .before in
-    let a = start p .args in
-    sym (ap (λ (l : List (List ℕ)). plusAll (a .word .now) (foundOf (a .found)) (onLeft (rootWalk (reply (a .sheet .now)) (a .surface) (a .chain) (take (a .stem) (a .word .now)) (a .first ∷ a .second ∷ [])) l))
-    (none-left (a .word .now) (a .«from») (a .stem) (formOf (a .second)) (sym (c .enum-told .given .1) ∙ asked p)))
+    let a = start p .args in (
+      sym (ap (λ (l : List (List ℕ)). plusAll (a .word .now) (keptOf (a .out .now) (a .n)) (onLeft (rootWalk (reply (a .sheet .now)) (a .surface) (a .at .chain) (take (a .at .end) (a .word .now)) (a .first ∷ a .second ∷ [])) l))
+          (none-left (a .word .now) (a .«from») (a .at .end) (formOf (a .second)) (sym (c .enum-told .given .1) ∙ asked p))),
+      start p .pre .6 .1,
+    )
 
 returns-2 : tie.Need-returns-2
 returns-2 c =
-    let r = c .before .before .before .before in
+    let w = c .before .before in
+    let r = w .before .before .before .before .before in
     let p = r .before .before in
-    let a = start p .args in
-    c .with-root .ensures
-    ∙ ap (plusAll (a .word .now) (foundOf (a .found))) (root-at (a .word .now) (a .«from» + r .rest .given .0 .0) (a .stem) (reply (a .sheet .now)) (a .surface) (a .chain) (a .first ∷ a .second ∷ []) (inside r) (start p .pre .2))
-    ∙ sym (ap (λ (l : List (List ℕ)). plusAll (a .word .now) (foundOf (a .found)) (onLeft (rootWalk (reply (a .sheet .now)) (a .surface) (a .chain) (take (a .stem) (a .word .now)) (a .first ∷ a .second ∷ [])) l))
-    (one-left (a .word .now) (a .«from») (a .stem) (formOf (a .second)) (r .rest .given .0 .0) (sym (r .rest .given .1) ∙ asked p)))
+    let a = start p .args in (
+      w .with-root .ensures .0
+          ∙ ap (plusAll (a .word .now) (keptOf (a .out .now) (a .n))) (root-at (a .word .now) (a .«from» + r .rest .given .0 .0) (a .at .end) (reply (a .sheet .now)) (a .surface) (a .at .chain) (a .first ∷ a .second ∷ []) (inside r) (start p .pre .2))
+          ∙ sym (ap (λ (l : List (List ℕ)). plusAll (a .word .now) (keptOf (a .out .now) (a .n)) (onLeft (rootWalk (reply (a .sheet .now)) (a .surface) (a .at .chain) (take (a .at .end) (a .word .now)) (a .first ∷ a .second ∷ [])) l))
+          (one-left (a .word .now) (a .«from») (a .at .end) (formOf (a .second)) (r .rest .given .0 .0) (sym (r .rest .given .1) ∙ asked p))),
+      w .with-root .ensures .1,
+    )
 
 pub second-row-spec : {M : Type 1} → statement M
 second-row-spec =
@@ -121,4 +130,5 @@ second-row-spec =
     has-supported-progressive-form-requires
     with-root-requires
     returns
+    same-length
     returns-2)

@@ -6,6 +6,7 @@ use native.Mathlib.Omega.{arith}
 use borrow.Fn.Kinds.{In}
 use borrow.Fn.PlainCycle.{Measures, is, falls, and}
 use mathlib.Core.Path.{_≡_, refl, sym, ap, subst, _∙_}
+use mathlib.Core.Bool.{false}
 use mathlib.Core.List.{List, [], _∷_}
 use lib.ListN.{length, take, getD}
 use lib.Seq.{length-take-le}
@@ -16,11 +17,13 @@ use Rattle.strips.specs.Suffix.{plain, shared, restsOf}
 use Rattle.strips.specs.declared.suffix.Rests.{Rests}
 use Rattle.strips.proofs.Remainders.{Inside, rests-inside}
 use Rattle.sheet.specs.Replies.{reply}
-use Rattle.ranking.specs.Lists.{foundOf, plusAll}
+use Rattle.ranking.specs.Lists.{listLimit, Rows, plusAll}
+use Rattle.ranking.specs.Kept.{keptOf}
+use borrow.Author.Needs.{needs}
 use Rattle.ranking.specs.declared.Reading.{Reading}
 use Rattle.ranking.specs.declared.AffixKind.{AffixKind}
 use Rattle.paths.specs.declared.Chain.{Chain}
-use Rattle.paths.specs.Readings.{kindOf}
+use Rattle.paths.specs.Readings.{segmentOf}
 use Rattle.paths.specs.Walk.{pushedOf, rowsWalk, pieceWalk}
 use Rattle.analysis.proofs.Strips.{Lefts, lefts, shorter, row-none, row-plain, row-both, row-turn, row-pass, row-end, piece-progressive, piece-last, piece-rows}
 use Rattle.analysis.proofs.suffixes.below.Reads as below
@@ -41,23 +44,23 @@ use Rattle.analysis.proofs.suffixes.+below+visit.{statement}
 use Rattle.analysis.proofs.suffixes.+below+visit.Tie.{close}
 
 -- twice the strips left, and one more for a piece, which calls its rows
-abbrev μ-below : Measures 7 below-kinds.ps ℕ
-μ-below κs a = 2 * (4 - a .1 .1 .1 .1 .1 .1 .1 .1 .0 .count)
+abbrev μ-below : Measures 8 below-kinds.ps ℕ
+μ-below κs a = 2 * (4 - a .1 .1 .1 .1 .1 .1 .1 .0 .chain .count)
 
-abbrev μ-visit : Measures 7 visit-kinds.ps ℕ
-μ-visit κs a = 2 * (4 - a .1 .1 .1 .1 .1 .1 .1 .1 .0 .count) + 1
+abbrev μ-visit : Measures 8 visit-kinds.ps ℕ
+μ-visit κs a = 2 * (4 - a .1 .1 .1 .1 .1 .1 .1 .0 .chain .count) + 1
 
-abbrev below-at : ℕ → In 7 below-kinds.ps
-below-at t = and 7 below-kinds.ps (is 7 below-kinds.ps μ-below t) below.Pre
+abbrev below-at : ℕ → In 8 below-kinds.ps
+below-at t = and 8 below-kinds.ps (is 8 below-kinds.ps μ-below t) below.Pre
 
-abbrev below-below : ℕ → In 7 below-kinds.ps
-below-below t = and 7 below-kinds.ps (falls 7 below-kinds.ps _<_ μ-below t) below.Pre
+abbrev below-below : ℕ → In 8 below-kinds.ps
+below-below t = and 8 below-kinds.ps (falls 8 below-kinds.ps _<_ μ-below t) below.Pre
 
-abbrev visit-at : ℕ → In 7 visit-kinds.ps
-visit-at t = and 7 visit-kinds.ps (is 7 visit-kinds.ps μ-visit t) visit.Pre
+abbrev visit-at : ℕ → In 8 visit-kinds.ps
+visit-at t = and 8 visit-kinds.ps (is 8 visit-kinds.ps μ-visit t) visit.Pre
 
-abbrev visit-below : ℕ → In 7 visit-kinds.ps
-visit-below t = and 7 visit-kinds.ps (falls 7 visit-kinds.ps _<_ μ-visit t) visit.Pre
+abbrev visit-below : ℕ → In 8 visit-kinds.ps
+visit-below t = and 8 visit-kinds.ps (falls 8 visit-kinds.ps _<_ μ-visit t) visit.Pre
 
 -- what is known of the functions that each calls
 abbrev below-claims : ℕ → below-lts.Claims
@@ -96,20 +99,20 @@ abbrev BelowRests : ℕ → Type 0
 BelowRests t = below-lts.After-suffix-rests (below-claims t) (below-at t) below.Post
 
 below-slice-aggregate-suffix-rests : (t : ℕ) → below-lts.Need-slice-aggregate-suffix-rests (below-claims t) (below-at t) below.Post
-below-slice-aggregate-suffix-rests t c = let a = c .before .before .before .before .before .before .before .before in sym (length-take-le (a .args .end) (a .args .word .now) (a .pre .1 .1))
+below-slice-aggregate-suffix-rests t c = let a = c .before .before .before .before .before .before .before .before .before .before in sym (length-take-le (a .args .at .end) (a .args .word .now) (a .pre .1 .1))
 
 below-row-requires : (t : ℕ) → below-lts.Need-row-requires (below-claims t) (below-at t) below.Post
-below-row-requires t c κs = let a = c .before .before .before .before .before .before .before .before in laid-asks (a .pre .1 .0 .texts-laid) (a .args .k) (omega (arith, affix-count, a .pre .1 .4))
+below-row-requires t c κs = let a = c .before .before .before .before .before .before .before .before .before .before in laid-asks (a .pre .1 .0 .texts-laid) (a .args .k) (omega (arith, affix-count, a .pre .1 .4))
 
 below-suffix-rests-requires : (t : ℕ) → below-lts.Need-suffix-rests-requires (below-claims t) (below-at t) below.Post
 below-suffix-rests-requires t c κs = tt
 
 module _ (t : ℕ) (c : BelowRests t) where
   abbrev start : BelowStart t
-  start = c .before .before .before .before .before .before .before .before .before .before
+  start = c .before .before .before .before .before .before .before .before .before .before .before .before
 
   abbrev piece : List ℕ
-  piece = take (start .args .end) (start .args .word .now)
+  piece = take (start .args .at .end) (start .args .word .now)
 
   abbrev text : List ℕ
   text = getD affixes (start .args .k) []
@@ -125,13 +128,13 @@ module _ (t : ℕ) (c : BelowRests t) where
   inside-are : Inside piece (c .suffix-rests .result)
   inside-are = subst (Inside piece) (sym rests-are) (rests-inside piece text)
 
-  piece-length : length piece ≡ start .args .end
-  piece-length = length-take-le (start .args .end) (start .args .word .now) (start .pre .1 .1)
+  piece-length : length piece ≡ start .args .at .end
+  piece-length = length-take-le (start .args .at .end) (start .args .word .now) (start .pre .1 .1)
 
-  plain-in : c .suffix-rests .result .plain ≤ start .args .end
+  plain-in : c .suffix-rests .result .plain ≤ start .args .at .end
   plain-in = omega (arith, inside-are .plain-in, piece-length)
 
-  shared-in : c .suffix-rests .result .shared ≤ start .args .end
+  shared-in : c .suffix-rests .result .shared ≤ start .args .at .end
   shared-in = omega (arith, inside-are .shared-in, piece-length)
 
 below-returns : (t : ℕ) → below-lts.Need-returns (below-claims t) (below-at t) below.Post
@@ -139,13 +142,13 @@ below-returns t c =
     let r = c .before .before in
     let a = start t r .args in
     let l = left-are t r .0 (c .if1 .taken) in
-    row-none (a .word .now) (piece t r) (pieceWalk (3 - a .chain .count) (reply (a .sheet .now)) (a .surface)) (reply (a .sheet .now)) (a .chain) (a .k) (foundOf (a .found)) (l .0) (l .1)
+    (row-none (a .word .now) (piece t r) (pieceWalk (3 - a .at .chain .count) (reply (a .sheet .now)) (a .surface)) (reply (a .sheet .now)) (a .at .chain) (a .k) (keptOf (a .out .now) (a .n)) (l .0) (l .1), start t r .pre .1 .5 .1)
 
 below-kind-at-requires : (t : ℕ) → below-lts.Need-kind-at-requires (below-claims t) (below-at t) below.Post
-below-kind-at-requires t c κs = let a = c .before .before .before .before .before .before .before .before .before .before .before .before in (a .pre .1 .0 .indexed, a .pre .1 .0 .texts-laid, a .pre .1 .4)
+below-kind-at-requires t c κs = let a = c .before .before .before .before .before .before .before .before .before .before .before .before .before .before in (a .pre .1 .0 .indexed, a .pre .1 .0 .texts-laid, a .pre .1 .4)
 
 below-pushed-requires : (t : ℕ) → below-lts.Need-pushed-requires (below-claims t) (below-at t) below.Post
-below-pushed-requires t c κs = c .before .before .before .before .before .before .before .before .before .before .before .before .before .pre .1 .3
+below-pushed-requires t c κs = c .before .before .before .before .before .before .before .before .before .before .before .before .before .before .before .pre .1 .3
 
 below-rows-after-requires : (t : ℕ) → below-lts.Need-rows-after-requires (below-claims t) (below-at t) below.Post
 below-rows-after-requires t c κs = tt
@@ -158,103 +161,143 @@ module _ (t : ℕ) (c : below-lts.After-rows-after (below-claims t) (below-at t)
   abbrev begun : BelowStart t
   begun = start t strip
 
-  pushed-is : c .before .pushed .result ≡ pushedOf (begun .args .chain) (record { label = begun .args .k; kind = kindOf (reply (begun .args .sheet .now)) (begun .args .k) })
-  pushed-is = c .before .pushed .ensures ∙ ap (λ (x : AffixKind). pushedOf (begun .args .chain) (record { label = begun .args .k; kind = x })) (c .before .before .kind-at .ensures)
+  pushed-is : c .before .pushed .result ≡ pushedOf (begun .args .at .chain) (segmentOf (reply (begun .args .sheet .now)) (record { row = begun .args .k; isShared = false }))
+  pushed-is = c .before .pushed .ensures ∙ ap (λ (x : AffixKind). pushedOf (begun .args .at .chain) (record { label = begun .args .k; kind = x })) (c .before .before .kind-at .ensures)
 
   -- the readings of what is left, with one strip fewer to come
   abbrev deeper : Chain → ℕ → List ℕ → List Reading
-  deeper = pieceWalk (3 - begun .args .chain .count) (reply (begun .args .sheet .now)) (begun .args .surface)
+  deeper = pieceWalk (3 - begun .args .at .chain .count) (reply (begun .args .sheet .now)) (begun .args .surface)
 
   one-fewer : (left : List ℕ) → pieceWalk (4 - c .before .pushed .result .count) (reply (begun .args .sheet .now)) (begun .args .surface) (c .before .pushed .result) (c .rows-after .result) left
       ≡ deeper (c .before .pushed .result) (c .rows-after .result) left
   one-fewer left =
-      let n : 4 - c .before .pushed .result .count ≡ 3 - begun .args .chain .count = omega (arith, ap (λ (x : Chain). x .count) pushed-is) in
+      let n : 4 - c .before .pushed .result .count ≡ 3 - begun .args .at .chain .count = omega (arith, ap (λ (x : Chain). x .count) pushed-is) in
       ap (λ (d : ℕ). pieceWalk d (reply (begun .args .sheet .now)) (begun .args .surface) (c .before .pushed .result) (c .rows-after .result) left) n
 
-  pushed-count : c .before .pushed .result .count ≡ begun .args .chain .count + 1
+  pushed-count : c .before .pushed .result .count ≡ begun .args .at .chain .count + 1
   pushed-count = ap (λ (x : Chain). x .count) pushed-is
 
 below-visit-requires : (t : ℕ) → below-lts.Need-visit-requires (below-claims t) (below-at t) below.Post
 below-visit-requires t c κs =
-    let a = begun t c in
-    let n = pushed-count t c in
-    (omega (arith, a .pre .0, a .pre .1 .3), (a .pre .1 .0, omega (arith, plain-in t (strip t c), a .pre .1 .1), a .pre .1 .2, omega (arith, a .pre .1 .3), omega (arith, c .rows-after .ensures .1)))
+    let b = c .before in
+    let a = begun t b in
+    let n = pushed-count t b in
+    (omega (arith, a .pre .0, a .pre .1 .3), (a .pre .1 .0, omega (arith, plain-in t (strip t b), a .pre .1 .1), a .pre .1 .2, omega (arith, a .pre .1 .3), omega (arith, b .rows-after .ensures .1), a .pre .1 .5))
+
+below-same-length : (t : ℕ) → below-lts.Need-same-length (below-claims t) (below-at t) below.Post
+below-same-length t c = search needs
+
+below-same-length-2 : (t : ℕ) → below-lts.Need-same-length-2 (below-claims t) (below-at t) below.Post
+below-same-length-2 t c = search needs
+
+-- what the plain remainder adds, seen from behind its visit
+module _ (t : ℕ) (v : below-lts.After-visit (below-claims t) (below-at t) below.Post) where
+  abbrev there : below-lts.After-rows-after (below-claims t) (below-at t) below.Post
+  there = v .before .before
+
+  -- a visit of what is left, as the walk says it
+  visited : {x : Rows} (y : Rows) (left : List ℕ) → (let a = begun t there .args in x ≡ plusAll (a .word .now) y (pieceWalk (4 - there .before .pushed .result .count) (reply (a .sheet .now)) (a .surface) (there .before .pushed .result) (there .rows-after .result) left))
+      → let a = begun t there .args in x ≡ plusAll (a .word .now) y (deeper t there (there .before .pushed .result) (there .rows-after .result) left)
+  visited y left e = e ∙ ap (plusAll (begun t there .args .word .now) y) (one-fewer t there left)
 
 below-returns-2 : (t : ℕ) → below-lts.Need-returns-2 (below-claims t) (below-at t) below.Post
 below-returns-2 t c =
-    let v = c .before .before in
-    let n = v .before in
+    let v = c .before .before .before .before in
+    let n = there t v in
     let r = strip t n in
     let a = begun t n .args in
-    let l = left-are t r .1 (c .if2 .taken) in
-    row-plain (a .word .now) (piece t r) (deeper t n) (reply (a .sheet .now)) (a .chain) (a .k) (foundOf (a .found)) (n .before .pushed .result) (n .rows-after .result) (pushed-is t n) (n .rows-after .ensures .0) _ _
-    (l .0 ∙ shorter (a .word .now) (r .suffix-rests .result .plain) (a .end) (plain-in t r)) (v .visit .ensures ∙ ap (plusAll (a .word .now) (foundOf (a .found))) (one-fewer t n _)) (l .1)
+    let l = left-are t r .1 (c .if2 .taken) in (
+      row-plain (a .word .now) (piece t r) (deeper t n) (reply (a .sheet .now)) (a .at .chain) (a .k) (keptOf (a .out .now) (a .n)) (n .before .pushed .result) (n .rows-after .result) (pushed-is t n) (n .rows-after .ensures .0) _ _
+          (l .0 ∙ shorter (a .word .now) (r .suffix-rests .result .plain) (a .at .end) (plain-in t r)) (visited t v _ _ (v .visit .ensures .0)) (l .1),
+      v .visit .ensures .1,
+    )
 
 below-visit-requires-2 : (t : ℕ) → below-lts.Need-visit-requires-2 (below-claims t) (below-at t) below.Post
 below-visit-requires-2 t c κs =
-    let n = c .before .before .before in
+    let v = c .before .before .before .before .before in
+    let n = there t v in
     let a = begun t n in
     let q = pushed-count t n in
-    (omega (arith, a .pre .0, a .pre .1 .3), (a .pre .1 .0, omega (arith, shared-in t (strip t n), a .pre .1 .1), a .pre .1 .2, omega (arith, a .pre .1 .3), omega (arith, n .rows-after .ensures .1)))
+    (omega (arith, a .pre .0, a .pre .1 .3), (a .pre .1 .0, omega (arith, shared-in t (strip t n), a .pre .1 .1), a .pre .1 .2, omega (arith, a .pre .1 .3), omega (arith, n .rows-after .ensures .1), (search needs, v .visit .ensures .1)))
 
 below-returns-3 : (t : ℕ) → below-lts.Need-returns-3 (below-claims t) (below-at t) below.Post
 below-returns-3 t c =
-    let e = c .before in
-    let v = e .before .before in
-    let n = v .before in
+    let u = c .before .before in
+    let e = u .before .before in
+    let v = e .before .before .before .before in
+    let n = there t v in
     let r = strip t n in
     let a = begun t n .args in
-    let l = left-are t r .2 (n .before .before .before .if1 .left) (e .if2 .left) in
-    row-both (a .word .now) (piece t r) (deeper t n) (reply (a .sheet .now)) (a .chain) (a .k) (foundOf (a .found)) (n .before .pushed .result) (n .rows-after .result) (pushed-is t n) (n .rows-after .ensures .0) _ _
-    (l .0 ∙ shorter (a .word .now) (r .suffix-rests .result .plain) (a .end) (plain-in t r)) (v .visit .ensures ∙ ap (plusAll (a .word .now) (foundOf (a .found))) (one-fewer t n _))
-    _ _ (l .1 ∙ shorter (a .word .now) (r .suffix-rests .result .shared) (a .end) (shared-in t r)) (c .visit2 .ensures ∙ ap (plusAll (a .word .now) (foundOf (v .visit .result))) (one-fewer t n _))
+    let l = left-are t r .2 (n .before .before .before .if1 .left) (e .if2 .left) in (
+      row-both (a .word .now) (piece t r) (deeper t n) (reply (a .sheet .now)) (a .at .chain) (a .k) (keptOf (a .out .now) (a .n)) (n .before .pushed .result) (n .rows-after .result) (pushed-is t n) (n .rows-after .ensures .0) _ _
+          (l .0 ∙ shorter (a .word .now) (r .suffix-rests .result .plain) (a .at .end) (plain-in t r)) (visited t v _ _ (v .visit .ensures .0))
+          _ _ (l .1 ∙ shorter (a .word .now) (r .suffix-rests .result .shared) (a .at .end) (shared-in t r)) (visited t v _ _ (u .visit2 .ensures .0)),
+      u .visit2 .ensures .1,
+    )
 
 abbrev visit-Inv-loop : visit-lts.InvT-loop
-visit-Inv-loop word sheet starts texts cuts forms form-cuts end chain rows surface progressive f₀ k₀ f k =
-    (k ≤ rows)
-    × (plusAll word (foundOf f₀) (rowsWalk (pieceWalk (3 - chain .count) (reply sheet) surface) (reply sheet) chain (take end word) 0 rows)
-    ≡ plusAll word (foundOf f) (rowsWalk (pieceWalk (3 - chain .count) (reply sheet) surface) (reply sheet) chain (take end word) k (rows - k)))
+visit-Inv-loop word sheet starts texts cuts forms form-cuts at surface n out₀ end rows progressive f₀ k₀ out f k =
+    (k ≤ rows) × (f ≤ listLimit + 1) × (length out ≡ length out₀)
+    × (plusAll word (keptOf out₀ f₀) (rowsWalk (pieceWalk (3 - at .chain .count) (reply sheet) surface) (reply sheet) (at .chain) (take (at .end) word) 0 rows)
+    ≡ plusAll word (keptOf out f) (rowsWalk (pieceWalk (3 - at .chain .count) (reply sheet) surface) (reply sheet) (at .chain) (take (at .end) word) k (rows - k)))
 
 abbrev visit-μ-loop : visit-lts.MeasureT-loop
-visit-μ-loop word sheet starts texts cuts forms form-cuts end chain rows surface progressive f₀ k₀ f k = rows - k
+visit-μ-loop word sheet starts texts cuts forms form-cuts at surface n out₀ end rows progressive f₀ k₀ out f k = rows - k
 
 visit-slice-aggregate-has-supported-progressive-form :
     (t : ℕ) → visit-lts.Need-slice-aggregate-has-supported-progressive-form (visit-claims t) (visit-at t) visit.Post visit-Inv-loop visit-μ-loop
-visit-slice-aggregate-has-supported-progressive-form t c = let a = c .before .before .before .before .before .before .before .before in sym (length-take-le (a .args .end) (a .args .word .now) (a .pre .1 .1))
+visit-slice-aggregate-has-supported-progressive-form t c = let a = c .before .before .before .before .before .before .before .before .before .before in sym (length-take-le (a .args .at .end) (a .args .word .now) (a .pre .1 .1))
 
 visit-has-supported-progressive-form-requires :
     (t : ℕ) → visit-lts.Need-has-supported-progressive-form-requires (visit-claims t) (visit-at t) visit.Post visit-Inv-loop visit-μ-loop
-visit-has-supported-progressive-form-requires t c κs = c .before .before .before .before .before .before .before .before .pre .1 .0 .indexed
+visit-has-supported-progressive-form-requires t c κs = c .before .before .before .before .before .before .before .before .before .before .pre .1 .0 .indexed
 
 visit-with-stem-requires : (t : ℕ) → visit-lts.Need-with-stem-requires (visit-claims t) (visit-at t) visit.Post visit-Inv-loop visit-μ-loop
-visit-with-stem-requires t c κs = let a = c .before .before .before .before .before .before .before .before .before .pre .1 in (a .0, a .1, a .2, a .3, c .has-supported-progressive-form .ensures)
+visit-with-stem-requires t c κs = let a = c .before .before .before .before .before .before .before .before .before .before .before .before .pre .1 in (a .0, a .1, a .2, a .3, c .before .has-supported-progressive-form .ensures, a .5)
+
+visit-same-length : (t : ℕ) → visit-lts.Need-same-length (visit-claims t) (visit-at t) visit.Post visit-Inv-loop visit-μ-loop
+visit-same-length t c = search needs
+
+visit-same-length-2 : (t : ℕ) → visit-lts.Need-same-length-2 (visit-claims t) (visit-at t) visit.Post visit-Inv-loop visit-μ-loop
+visit-same-length-2 t c = search needs
+
+-- the function's start, seen from behind the readings of the stem
+abbrev VisitStem : ℕ → Type 0
+VisitStem t = visit-lts.After-with-stem (visit-claims t) (visit-at t) visit.Post visit-Inv-loop visit-μ-loop
+
+abbrev opened : (t : ℕ) → VisitStem t → visit-lts.Start (visit-claims t) (visit-at t) visit.Post visit-Inv-loop visit-μ-loop
+opened t s = s .before .before .before .before .before .before .before .before .before .before .before .before .before
 
 visit-returns : (t : ℕ) → visit-lts.Need-returns (visit-claims t) (visit-at t) visit.Post visit-Inv-loop visit-μ-loop
 visit-returns t c =
-    let s = c .before in
-    let a = s .before .before .before .before .before .before .before .before .before .before .args in
-    piece-progressive (a .word .now) (take (a .end) (a .word .now)) (reply (a .sheet .now)) (a .surface) (a .chain) (a .rows) (foundOf (a .found)) _ (s .with-stem .ensures) (4 - a .chain .count)
-    (sym (s .before .has-supported-progressive-form .ensures) ∙ c .if1 .taken)
+    let s = c .before .before .before in
+    let a = opened t s .args in (
+      piece-progressive (a .word .now) (take (a .at .end) (a .word .now)) (reply (a .sheet .now)) (a .surface) (a .at .chain) (a .at .rows) (keptOf (a .out .now) (a .n)) _ (s .with-stem .ensures .0) (4 - a .at .chain .count)
+          (sym (s .before .before .has-supported-progressive-form .ensures) ∙ c .if1 .taken),
+      s .with-stem .ensures .1,
+    )
 
 visit-returns-2 : (t : ℕ) → visit-lts.Need-returns-2 (visit-claims t) (visit-at t) visit.Post visit-Inv-loop visit-μ-loop
 visit-returns-2 t c =
-    let s = c .before .before .before in
-    let a = s .before .before .before .before .before .before .before .before .before .before .args in
-    piece-last (a .word .now) (take (a .end) (a .word .now)) (reply (a .sheet .now)) (a .surface) (a .chain) (a .rows) (foundOf (a .found)) _ (s .with-stem .ensures) (4 - a .chain .count) (omega (arith, c .if2 .taken))
+    let s = c .before .before .before .before .before in
+    let a = opened t s .args in
+    (piece-last (a .word .now) (take (a .at .end) (a .word .now)) (reply (a .sheet .now)) (a .surface) (a .at .chain) (a .at .rows) (keptOf (a .out .now) (a .n)) _ (s .with-stem .ensures .0) (4 - a .at .chain .count) (omega (arith, c .if2 .taken)), s .with-stem .ensures .1)
 
 -- the place before the loop, and the function's start
 module _ (t : ℕ) (c : visit-lts.At-loop (visit-claims t) (visit-at t) visit.Post visit-Inv-loop visit-μ-loop) where
-  abbrev stem-done : visit-lts.After-with-stem (visit-claims t) (visit-at t) visit.Post visit-Inv-loop visit-μ-loop
-  stem-done = c .before .before .before .before
+  abbrev stem-done : VisitStem t
+  stem-done = c .before .before .before .before .before .before
 
   abbrev entered : visit-lts.Start (visit-claims t) (visit-at t) visit.Post visit-Inv-loop visit-μ-loop
-  entered = stem-done .before .before .before .before .before .before .before .before .before .before
+  entered = opened t stem-done
 
   abbrev below-it : Chain → ℕ → List ℕ → List Reading
-  below-it = pieceWalk (3 - entered .args .chain .count) (reply (entered .args .sheet .now)) (entered .args .surface)
+  below-it = pieceWalk (3 - entered .args .at .chain .count) (reply (entered .args .sheet .now)) (entered .args .surface)
 
 visit-loop-holds : (t : ℕ) → visit-lts.Need-loop-holds (visit-claims t) (visit-at t) visit.Post visit-Inv-loop visit-μ-loop
-visit-loop-holds t c = (omega arith, rw (sub-zero (c .before .before .before .before .before .before .before .before .before .before .before .before .before .args .rows)))
+visit-loop-holds t c =
+    let s = c .before .before .before .before .before in
+    (omega arith, s .with-stem .ensures .1, search needs, rw (sub-zero (opened t s .args .at .rows)))
 
 visit-add-k : (t : ℕ) → visit-lts.Need-add-k (visit-claims t) (visit-at t) visit.Post visit-Inv-loop visit-μ-loop
 visit-add-k t c = omega (arith, c .loop-test .taken, entered t (c .before) .pre .1 .4)
@@ -264,21 +307,24 @@ visit-ends-requires t c κs = let a = entered t (c .before) in (a .pre .1 .0 .te
 
 visit-below-requires : (t : ℕ) → visit-lts.Need-below-requires (visit-claims t) (visit-at t) visit.Post visit-Inv-loop visit-μ-loop
 visit-below-requires t c κs =
-    let i = c .before .before in
+    let i = c .before .before .before in
     let k = i .before in
     let a = entered t k in
-    (omega (arith, a .pre .0), (a .pre .1 .0, a .pre .1 .1, a .pre .1 .2, k .before .if2 .left, omega (arith, i .loop-test .taken, a .pre .1 .4)))
+    (omega (arith, a .pre .0), (a .pre .1 .0, a .pre .1 .1, a .pre .1 .2, k .before .if2 .left, omega (arith, i .loop-test .taken, a .pre .1 .4), (omega (arith, k .loop .inv .2, a .pre .1 .5 .0), k .loop .inv .1)))
 
 visit-loop-less : (t : ℕ) → visit-lts.Need-loop-less (visit-claims t) (visit-at t) visit.Post visit-Inv-loop visit-μ-loop
-visit-loop-less t c = omega (arith, c .before .before .before .loop-test .taken)
+visit-loop-less t c = omega (arith, c .before .before .before .before .before .before .loop-test .taken)
 
 visit-loop-again : (t : ℕ) → visit-lts.Need-loop-again (visit-claims t) (visit-at t) visit.Post visit-Inv-loop visit-μ-loop
 visit-loop-again t c =
-    let i = c .before .before .before in
+    let b = c .before .before in
+    let i = b .before .before .before .before in
     let k = i .before in
     let a = entered t k .args in (
       omega (arith, i .loop-test .taken),
-      k .loop .inv .1 ∙ row-turn (a .word .now) (take (a .end) (a .word .now)) (below-it t k) (reply (a .sheet .now)) (a .chain) (k .loop .k) (a .rows) (foundOf (k .loop .f)) _ (i .loop-test .taken) (c .below .ensures),
+      b .below .ensures .1,
+      search needs,
+      k .loop .inv .3 ∙ row-turn (a .word .now) (take (a .at .end) (a .word .now)) (below-it t k) (reply (a .sheet .now)) (a .at .chain) (k .loop .k) (a .at .rows) (keptOf (k .loop .out) (k .loop .f)) _ (i .loop-test .taken) (b .below .ensures .0),
     )
 
 visit-loop-less-2 : (t : ℕ) → visit-lts.Need-loop-less-2 (visit-claims t) (visit-at t) visit.Post visit-Inv-loop visit-μ-loop
@@ -290,30 +336,37 @@ visit-loop-again-2 t c =
     let k = i .before in
     let a = entered t k .args in (
       omega (arith, i .loop-test .taken),
-      k .loop .inv .1 ∙ row-pass (a .word .now) (take (a .end) (a .word .now)) (below-it t k) (reply (a .sheet .now)) (a .chain) (k .loop .k) (a .rows) (foundOf (k .loop .f)) (i .loop-test .taken) (sym (c .before .ends .ensures) ∙ c .if3 .left),
+      k .loop .inv .1,
+      k .loop .inv .2,
+      k .loop .inv .3 ∙ row-pass (a .word .now) (take (a .at .end) (a .word .now)) (below-it t k) (reply (a .sheet .now)) (a .at .chain) (k .loop .k) (a .at .rows) (keptOf (k .loop .out) (k .loop .f)) (i .loop-test .taken) (sym (c .before .ends .ensures) ∙ c .if3 .left),
     )
+
+visit-same-length-3 : (t : ℕ) → visit-lts.Need-same-length-3 (visit-claims t) (visit-at t) visit.Post visit-Inv-loop visit-μ-loop
+visit-same-length-3 t c = search needs
 
 visit-returns-3 : (t : ℕ) → visit-lts.Need-returns-3 (visit-claims t) (visit-at t) visit.Post visit-Inv-loop visit-μ-loop
 visit-returns-3 t c =
     let k = c .before in
     let s = stem-done t k in
     let a = entered t k .args in
-    let n : 4 - a .chain .count ≡ suc (3 - a .chain .count) = omega (arith, k .before .if2 .left) in
-    sym (row-end (a .word .now) (take (a .end) (a .word .now)) (below-it t k) (reply (a .sheet .now)) (a .chain) (k .loop .k) (a .rows) (foundOf (k .loop .f)) (c .loop-test .left))
-    ∙ sym (k .loop .inv .1)
-    ∙ piece-rows (a .word .now) (take (a .end) (a .word .now)) (reply (a .sheet .now)) (a .surface) (a .chain) (a .rows) (foundOf (a .found)) _ (s .with-stem .ensures) (3 - a .chain .count)
-    (sym (s .before .has-supported-progressive-form .ensures) ∙ k .before .before .before .if1 .left)
-    ∙ ap (λ (d : ℕ). plusAll (a .word .now) (foundOf (a .found)) (pieceWalk d (reply (a .sheet .now)) (a .surface) (a .chain) (a .rows) (take (a .end) (a .word .now)))) (sym n)
+    let n : 4 - a .at .chain .count ≡ suc (3 - a .at .chain .count) = omega (arith, k .before .if2 .left) in (
+      sym (row-end (a .word .now) (take (a .at .end) (a .word .now)) (below-it t k) (reply (a .sheet .now)) (a .at .chain) (k .loop .k) (a .at .rows) (keptOf (k .loop .out) (k .loop .f)) (c .loop-test .left))
+          ∙ sym (k .loop .inv .3)
+          ∙ piece-rows (a .word .now) (take (a .at .end) (a .word .now)) (reply (a .sheet .now)) (a .surface) (a .at .chain) (a .at .rows) (keptOf (a .out .now) (a .n)) _ (s .with-stem .ensures .0) (3 - a .at .chain .count)
+          (sym (s .before .before .has-supported-progressive-form .ensures) ∙ k .before .before .before .if1 .left)
+          ∙ ap (λ (d : ℕ). plusAll (a .word .now) (keptOf (a .out .now) (a .n)) (pieceWalk d (reply (a .sheet .now)) (a .surface) (a .at .chain) (a .at .rows) (take (a .at .end) (a .word .now)))) (sym n),
+      k .loop .inv .1,
+    )
 
 pub +below+visit-spec : {M : Type 1} → statement M
 +below+visit-spec =
     close μ-below μ-visit
     (λ t.
     below-lts.spec (below-claims t) (below-at t) below.Post (below-slice-aggregate-suffix-rests t) (below-row-requires t) (below-suffix-rests-requires t)
-    (below-returns t) (below-kind-at-requires t) (below-pushed-requires t) (below-rows-after-requires t) (below-visit-requires t) (below-returns-2 t)
-    (below-visit-requires-2 t) (below-returns-3 t))
+    (below-returns t) (below-kind-at-requires t) (below-pushed-requires t) (below-rows-after-requires t) (below-visit-requires t) (below-same-length t)
+    (below-returns-2 t) (below-visit-requires-2 t) (below-same-length-2 t) (below-returns-3 t))
     λ t.
     visit-lts.spec (visit-claims t) (visit-at t) visit.Post visit-Inv-loop visit-μ-loop (visit-slice-aggregate-has-supported-progressive-form t)
-    (visit-has-supported-progressive-form-requires t) (visit-with-stem-requires t) (visit-returns t) (visit-returns-2 t) (visit-loop-holds t)
-    (visit-add-k t) (visit-ends-requires t) (visit-below-requires t) (visit-loop-less t) (visit-loop-again t) (visit-loop-less-2 t) (visit-loop-again-2 t)
-    (visit-returns-3 t)
+    (visit-has-supported-progressive-form-requires t) (visit-with-stem-requires t) (visit-same-length t) (visit-returns t) (visit-same-length-2 t)
+    (visit-returns-2 t) (visit-loop-holds t) (visit-add-k t) (visit-ends-requires t) (visit-below-requires t) (visit-loop-less t) (visit-loop-again t)
+    (visit-loop-less-2 t) (visit-loop-again-2 t) (visit-same-length-3 t) (visit-returns-3 t)

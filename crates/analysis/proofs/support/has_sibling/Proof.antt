@@ -4,6 +4,7 @@ use native.Mathlib.Omega.{arith}
 use mathlib.Core.Path.{_≡_, refl, sym, ap, _∙_}
 use mathlib.Core.List.{List, [], _++_}
 use lib.ListN.{length, drop, getD}
+use Rattle.paths.specs.Chains.{allRows}
 use Rattle.tables.specs.Tables.{affixes}
 use Rattle.tables.proofs.Facts.{affix-count}
 use Rattle.tables.proofs.Laid.{laid-asks, laid-row}
@@ -14,10 +15,10 @@ use Rattle.analysis.proofs.support.has_sibling.Statement.{statement}
 use Rattle.analysis.proofs.support.has_sibling.Tie as tie
 
 abbrev Inv-loop : tie.InvT-loop
-Inv-loop sheet starts range texts cuts piece k₀ k = (k ≤ 25) × (knownWith (reply sheet) piece affixes ≡ knownWith (reply sheet) piece (drop k affixes))
+Inv-loop sheet starts range texts cuts piece k₀ k = (k ≤ allRows) × (knownWith (reply sheet) piece affixes ≡ knownWith (reply sheet) piece (drop k affixes))
 
 abbrev μ-loop : tie.MeasureT-loop
-μ-loop sheet starts range texts cuts piece k₀ k = 25 - k
+μ-loop sheet starts range texts cuts piece k₀ k = allRows - k
 
 loop-holds : tie.Need-loop-holds Inv-loop μ-loop
 loop-holds c = (omega arith, refl)

@@ -4,7 +4,7 @@ use native.Mathlib.Omega.{arith}
 use mathlib.Core.Path.{_≡_, _∙_}
 use lib.ListN.{length, length-map}
 use Rattle.ranking.specs.Lists.{rowsOf}
-use Rattle.exports.specs.Rows.{readingBytes}
+use Rattle.ranking.specs.Stored.{readingBytes, readingWidth}
 use Rattle.exports.proofs.Widths.{rows-short, rows-long, taken-few}
 use borrow.Author.Needs.{needs}
 use Rattle.exports.proofs.rows.put_list.Statement.{statement}
@@ -29,7 +29,7 @@ refusal-code-requires c κs = tt
 returns : tie.Need-returns
 returns c =
     let b = c .before .before .before in
-    let q = rows-short readingBytes 18 (b .args .list .count) (rowsOf (b .args .list)) (b .args .out .now) (counted b) (c .before .if1 .taken) in
+    let q = rows-short readingBytes readingWidth (b .args .list .count) (rowsOf (b .args .list)) (b .args .out .now) (counted b) (c .before .if1 .taken) in
     (c .refusal-code .ensures ∙ q .0, q .1)
 
 put-rows-requires : tie.Need-put-rows-requires
@@ -46,7 +46,7 @@ returns-2 c =
     let d = c .before .before in
     let e = d .before .before in
     let b = e .before .before in
-    rows-long readingBytes 18 (b .args .list .count) (rowsOf (b .args .list)) (b .args .out .now) (counted b) _ (e .if1 .left) (d .put-rows .ensures)
+    rows-long readingBytes readingWidth (b .args .list .count) (rowsOf (b .args .list)) (b .args .out .now) (counted b) _ (e .if1 .left) (d .put-rows .ensures)
 
 pub put-list-spec : {M : Type 1} → statement M
 put-list-spec =

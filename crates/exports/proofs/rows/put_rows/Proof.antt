@@ -5,7 +5,8 @@ use mathlib.Core.Path.{_≡_, refl, sym, ap, _∙_}
 use mathlib.Core.List.{_++_}
 use lib.ListN.{length, take, drop, length-map}
 use Rattle.ranking.specs.Places.{noReading}
-use Rattle.exports.specs.Rows.{each, readingBytes}
+use Rattle.ranking.specs.Stored.{readingBytes, readingWidth}
+use Rattle.exports.specs.Rows.{each}
 use Rattle.exports.proofs.Widths.{store-none, store-next}
 use borrow.Author.Needs.{needs}
 use Rattle.exports.proofs.rows.put_rows.Statement.{statement}
@@ -14,7 +15,7 @@ use Rattle.exports.proofs.rows.put_rows.Tie as tie
 abbrev Inv-loop : tie.InvT-loop
 Inv-loop n out₀ list i₀ out i =
     (i ≤ n) × (n ≤ length (list .rows)) × (length out ≡ length out₀)
-    × (out ≡ each readingBytes (take i (list .rows)) ++ drop (18 * i) out₀)
+    × (out ≡ each readingBytes (take i (list .rows)) ++ drop (readingWidth * i) out₀)
 
 abbrev μ-loop : tie.MeasureT-loop
 μ-loop n out₀ list i₀ out i = n - i
@@ -23,7 +24,7 @@ loop-holds : tie.Need-loop-holds Inv-loop μ-loop
 loop-holds c =
     let b = c .before in
     let l : length (b .args .t1 .rows) ≡ 64 = simp length-map at (b .good .0 .1 .1 .0 .1 .0 .1) in
-    (omega arith, omega (arith, b .pre), refl, store-none readingBytes 18 (λ _. refl) (b .args .t1 .rows) (b .args .out .now))
+    (omega arith, omega (arith, b .pre), refl, store-none readingBytes readingWidth (λ _. refl) (b .args .t1 .rows) (b .args .out .now))
 
 mul-r : tie.Need-mul-r Inv-loop μ-loop
 mul-r c = omega arith
@@ -61,7 +62,7 @@ loop-again c =
       omega arith,
       l .inv .1,
       search needs,
-      store-next readingBytes 18 (λ _. refl) (a .t1 .rows) (l .i) noReading (a .out .now) (l .out) _ (omega arith) (l .inv .3) (p .put-reading .ensures),
+      store-next readingBytes readingWidth (λ _. refl) (a .t1 .rows) (l .i) noReading (a .out .now) (l .out) _ (omega arith) (l .inv .3) (p .put-reading .ensures),
     )
 
 same-length : tie.Need-same-length Inv-loop μ-loop
@@ -72,7 +73,7 @@ returns c =
     let l = c .before .loop in
     let a = c .before .before .before .args in
     let e : l .i ≡ a .n = omega arith in
-    l .inv .3 ∙ ap (λ (k : ℕ). each readingBytes (take k (a .t1 .rows)) ++ drop (18 * k) (a .out .now)) e
+    l .inv .3 ∙ ap (λ (k : ℕ). each readingBytes (take k (a .t1 .rows)) ++ drop (readingWidth * k) (a .out .now)) e
 
 pub put-rows-spec : {M : Type 1} → statement M
 put-rows-spec =

@@ -1,12 +1,12 @@
--- `rows::put_reading` meets its contract. Assumes nothing.
+-- `ranking::rows::put_reading` meets its contract. Assumes nothing.
 use Prim.Native.Nat.{ℕ}
 use mathlib.Core.Path.{ap, _∙_}
 use mathlib.Core.List.{List, _++_}
 use lib.ListN.{drop}
-use Rattle.exports.proofs.Put.{reading-bytes}
+use Rattle.ranking.proofs.Backs.{reading-bytes}
 use borrow.Author.Needs.{needs}
-use Rattle.exports.proofs.rows.put_reading.Statement.{statement}
-use Rattle.exports.proofs.rows.put_reading.Tie as tie
+use Rattle.ranking.proofs.rows.put_reading.Statement.{statement}
+use Rattle.ranking.proofs.rows.put_reading.Tie as tie
 
 array-copy-out-first : tie.Need-array-copy-out-first
 array-copy-out-first c = search needs
