@@ -97,9 +97,7 @@ static void print_decomposition(void) {
 
 static void print_progressive(void) {
     struct yunthirel_code code = yunthirel_progressive(word, word_len, sheet, sheet_len);
-    if (yunthirel_number_of(code) == YUNTHIREL_ANSWERED) {
-        printf("progressive form: none\n");
-    } else if (yunthirel_form_of(code).found) {
+    if (yunthirel_form_of(code).found) {
         struct yunthirel_form form = yunthirel_form_of(code);
         printf("progressive form:");
         print_part(word, 0, form.main_end);
@@ -108,6 +106,8 @@ static void print_progressive(void) {
         printf(", auxiliary");
         print_part(word, form.main_end, word_len);
         printf(form.negative ? ", negative\n" : "\n");
+    } else if (yunthirel_number_of(code) == YUNTHIREL_ANSWERED) {
+        printf("progressive form: none\n");
     } else {
         print_refusal("progressive form", code);
     }
@@ -148,5 +148,6 @@ int main(int argc, char **argv) {
     print_decomposition();
     print_progressive();
     print_origin();
-    return yunthirel_check_word(word, word_len) != 0 || yunthirel_check_sheet(sheet, sheet_len) != 0;
+    return yunthirel_number_of(yunthirel_check_word(word, word_len)) != YUNTHIREL_ANSWERED
+        || yunthirel_number_of(yunthirel_check_sheet(sheet, sheet_len)) != YUNTHIREL_ANSWERED;
 }
