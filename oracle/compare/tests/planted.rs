@@ -75,18 +75,30 @@ fn wrong_codes() {
         ),
         (
             &["has_progressive"],
-            Functions { has_progressive: |word, sheet| yes(raw::has_progressive(word, sheet), raw::YES, raw::NO), ..LIBRARY },
+            Functions {
+                has_progressive: |word, sheet| yes(raw::has_progressive(word, sheet), raw::YES, raw::NO),
+                ..LIBRARY
+            },
         ),
         (
             &["has_known_root"],
-            Functions { has_known_root: |word, sheet| yes(raw::has_known_root(word, sheet), raw::YES, raw::NO), ..LIBRARY },
+            Functions {
+                has_known_root: |word, sheet| yes(raw::has_known_root(word, sheet), raw::YES, raw::NO),
+                ..LIBRARY
+            },
         ),
         (
             &["has_known_root"],
-            Functions { has_known_root: |word, sheet| yes(raw::has_known_root(word, sheet), raw::NO, raw::YES), ..LIBRARY },
+            Functions {
+                has_known_root: |word, sheet| yes(raw::has_known_root(word, sheet), raw::NO, raw::YES),
+                ..LIBRARY
+            },
         ),
         // The other sign, the lemma a byte on, and no form.
-        (&["progressive"], Functions { progressive: |word, sheet| form(word, sheet, |code| code ^ (1 << 9)), ..LIBRARY }),
+        (
+            &["progressive"],
+            Functions { progressive: |word, sheet| form(word, sheet, |code| code ^ (1 << 9)), ..LIBRARY },
+        ),
         (
             &["progressive"],
             Functions { progressive: |word, sheet| form(word, sheet, |code| code + (1 << 26)), ..LIBRARY },
