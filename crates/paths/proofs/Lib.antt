@@ -1,5 +1,6 @@
 pub mod Routes
 pub mod Walked
+pub mod Surface
 pub mod Members
 pub mod Sound
 pub mod Complete
