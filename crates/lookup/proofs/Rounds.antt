@@ -15,7 +15,7 @@ use Rattle.sheet.specs.Forms.{key}
 use Rattle.sheet.specs.Lines.{lineAt}
 use Rattle.lookup.specs.declared.search.Found.the-variants.{At, Nothing}
 use Rattle.lookup.specs.Search.{placeIn, judge, asked}
-use Rattle.lookup.proofs.Accepted.{GoesUp, up-drop, up-take}
+use Rattle.sheet.proofs.Accepted.{GoesUp, up-drop, up-take}
 use Rattle.lookup.proofs.Halves.{place-up, place-down, place-here}
 
 -- the first h of the elements from number lo on that come before number hi

@@ -4,7 +4,7 @@ use mathlib.Core.Path.{_≡_}
 use mathlib.Core.Bool.{true}
 use mathlib.Core.List.{List, [], _∷_, List·Memᴰ}
 use lib.ListN.{length, take, drop, getD}
-use lib.Dec.{eqb, ltb}
+use lib.Dec.{eqb}
 use Rattle.runs.specs.Runs.{pick, sameText, cmp}
 use Rattle.runs.specs.declared.Order.{Order}
 use Rattle.runs.specs.declared.Order.the-variants.{Less, Equal, Greater}
@@ -13,12 +13,6 @@ use Rattle.sheet.specs.Lines.{startsOf, lineAt}
 use Rattle.sheet.specs.Replies.{Reply, unknown, told, reply}
 use Rattle.lookup.specs.declared.search.Found.{Found}
 use Rattle.lookup.specs.declared.search.Found.the-variants.{At, Nothing}
-
--- how name stands to all names that begin with head: equal if it is one of them
-abbrev pub headed : List ℕ → List ℕ → Order
-headed name [] = Equal
-headed [] (y ∷ head) = Less
-headed (x ∷ name) (y ∷ head) = pick (ltb x y) Less (pick (ltb y x) Greater (headed name head))
 
 -- the line with the key q among those that begin at the places given
 abbrev pub placeIn : List ℕ → List ℕ → List ℕ → Found

@@ -5,11 +5,12 @@ ghost use Rattle.lookup.specs.Starts.{Room};
 ghost use Rattle.lookup.specs.Stored.{Stored, SheetReady, Prepared};
 use crate::starts::Start;
 use sheet::check::SheetCheck;
-use sheet::check::rises;
 use sheet::inputs::Inputs;
 use sheet::inputs::Refusal;
-use sheet::line::Cursor;
-use sheet::line::Line;
+use sheet::limits::SHEET_BYTES;
+use sheet::walk::Before;
+use sheet::walk::Reached;
+use sheet::walk::Walk;
 use text::word::WordCheck;
 use text::word::check_word;
 
@@ -31,49 +32,48 @@ pub fn check_lines(s: &[u8], out: &mut [Start]) -> Checked
     requires { ⌜ Room (now s) (now out) ⌝ }
     ensures { λ r. ⌜ Stored (now (s .entry)) (now (out .entry)) (now (out .exit)) r ⌝ }
 {
-    if 65536 < s.len() {
+    if SHEET_BYTES < s.len() {
         return Checked {
             said: SheetCheck::TooLong,
             lines: 0,
         };
     }
     let mut n: usize = 0;
-    let mut cursor = Cursor { at: 0 };
-    let mut from = 0;
-    let mut end = 0;
+    let mut walk = Walk {
+        at: 0,
+        last: Before::Nothing,
+    };
     loop {
-        let at = cursor.at;
-        let line = cursor.step(s);
+        let at = walk.at;
+        let line = walk.step(s);
         match line {
-            Line::End => {
+            Reached::End => {
                 return Checked {
                     said: SheetCheck::Accepted,
                     lines: n,
                 };
             }
-            Line::NoForm => {
+            Reached::NoForm => {
                 return Checked {
                     said: SheetCheck::NoForm(at),
                     lines: n,
                 };
             }
-            Line::Form {
-                name_end,
+            Reached::NotAbove => {
+                return Checked {
+                    said: SheetCheck::NotAbove(at),
+                    lines: n,
+                };
+            }
+            Reached::Form {
+                letter: _,
+                name_end: _,
                 value_end: _,
                 next,
             } => {
-                let first = at + 1;
-                if !rises(s, from, end, first, name_end) {
-                    return Checked {
-                        said: SheetCheck::NotAbove(at),
-                        lines: n,
-                    };
-                }
                 out[n] = at as Start;
                 n += 1;
-                from = first;
-                end = name_end;
-                cursor = next;
+                walk = next;
             }
         }
     }

@@ -6,7 +6,8 @@ use mathlib.Core.List.{List}
 use Rattle.text.specs.Word.{wordCheck}
 use Rattle.text.specs.declared.word.WordCheck.{WordCheck}
 use Rattle.text.specs.declared.word.WordCheck.the-variants as words
-use Rattle.sheet.specs.Lines.{sheetLimit, sheetCheck}
+use Rattle.sheet.specs.Limits.{sheetLimit}
+use Rattle.sheet.specs.Lines.{sheetCheck}
 use Rattle.sheet.specs.Inputs.{bySheet, byWordThen, inputsOf, numbersGiven, sheetNumbers, wordFirst, lowestNumbers, Placed}
 use Rattle.sheet.specs.declared.check.SheetCheck.{SheetCheck}
 use Rattle.sheet.specs.declared.check.SheetCheck.the-variants as sheets

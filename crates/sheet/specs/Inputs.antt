@@ -5,7 +5,8 @@ use mathlib.Core.List.{List, [], _∷_}
 use Rattle.text.specs.Word.{wordCheck, wordNumber}
 use Rattle.text.specs.declared.word.WordCheck.{WordCheck}
 use Rattle.text.specs.declared.word.WordCheck.the-variants as words
-use Rattle.sheet.specs.Lines.{sheetLimit, sheetCheck, sheetNumber}
+use Rattle.sheet.specs.Limits.{sheetLimit}
+use Rattle.sheet.specs.Lines.{sheetCheck, sheetNumber}
 use Rattle.sheet.specs.declared.check.SheetCheck.{SheetCheck}
 use Rattle.sheet.specs.declared.check.SheetCheck.the-variants as sheets
 use Rattle.sheet.specs.declared.inputs.Refusal.{Refusal}

@@ -1,16 +1,17 @@
 // The reader of the sheet: from line to line, its place going in and coming back.
 use crate::letters::are_letters;
 use crate::name::read_name;
+use bytes::scan::find;
 use runs::begins_with;
 use runs::ends_with;
 use runs::same;
 ghost use mathlib.Core.Path.{_≡_};
 ghost use mathlib.Core.Bool.{_||_};
-ghost use Prim.Native.Nat.{_≤_};
-ghost use lib.ListN.{length};
+ghost use mathlib.Core.Bool.{true};
+ghost use lib.ListN.{drop};
 ghost use Rattle.runs.specs.Runs.{endsIn};
-ghost use Rattle.sheet.specs.Forms.{signI, letterI, syllableNu, isKind, isName, isMeant};
-ghost use Rattle.sheet.specs.Steps.{headOf, stepAt};
+ghost use Rattle.sheet.specs.Forms.{signI, letterI, syllableNu, isKind, isName, isMeant, isForm};
+ghost use Rattle.sheet.specs.Steps.{headOf, nameEnd, valueEnd, stepAt};
 
 // The first letter of the form whose head stands at the front of t, 0 where none does.
 fn head_at(t: &[u8]) -> u8
@@ -71,15 +72,34 @@ fn is_meant(letter: u8, name: &[u8], value: &[u8], named: bool) -> bool
     false
 }
 
+// Where the first name of the line that begins at `at` ends. A form stands there.
+pub fn name_end(s: &[u8], at: usize) -> usize
+    requires { ⌜ isForm (drop at (now s)) ≡ true ⌝ }
+    ensures { λ r. ⌜ r ≡ nameEnd (now (s .entry)) at ⌝ }
+{
+    let from = at + 3;
+    find(s, from, s.len(), b' ')
+}
+
+// Where its value ends; the name ends at `end`.
+pub fn value_end(s: &[u8], at: usize, end: usize) -> usize
+    requires { ⌜ (isForm (drop at (now s)) ≡ true) × (end ≡ nameEnd (now s) at) ⌝ }
+    ensures { λ r. ⌜ r ≡ valueEnd (now (s .entry)) at ⌝ }
+{
+    let from = end + 2;
+    find(s, from, s.len(), b')')
+}
+
 // A place in the sheet at which a line begins.
 pub struct Cursor {
     pub at: usize,
 }
 
-// What stands at a cursor: a form, with the ends of its first name and of its value and the next line's cursor; a line that is no
-// form; or the sheet's end.
+// What stands at a cursor: a form, with its first letter (k, l or w), the ends of its first name and of its value and the next line's
+// cursor; a line that is no form; or the sheet's end.
 pub enum Line {
     Form {
+        letter: u8,
         name_end: usize,
         value_end: usize,
         next: Cursor,
@@ -125,6 +145,7 @@ impl Cursor {
             return Line::NoForm;
         }
         Line::Form {
+            letter,
             name_end,
             value_end,
             next: Cursor { at: value_end + 3 },

@@ -1,4 +1,5 @@
 // Names of the sheet: SUFFIX, LINK, INFINITIVE and NAME of document 01.
+use crate::limits::NAME_BYTES;
 use text::names::is_forbidden;
 use text::utf8::State;
 use text::utf8::is_whole;
@@ -11,6 +12,7 @@ ghost use lib.Dec.{ltb, leb};
 ghost use Rattle.text.specs.Utf8.{whole};
 ghost use Rattle.text.specs.Owes.{owedOf};
 ghost use Rattle.text.specs.Names.{nameRun};
+ghost use Rattle.sheet.specs.Limits.{nameLimit};
 ghost use Rattle.sheet.specs.Forms.{front, isName};
 ghost use Rattle.sheet.specs.Passing.{Three, Passed};
 
@@ -22,12 +24,12 @@ pub struct NameRead {
 
 // Whether so many bytes, read up to this state, are a name: 1 to 210 of them, whole UTF-8.
 fn named(len: usize, state: State) -> bool
-    ensures { λ r. ⌜ r ≡ (ltb 0 len && leb len 210 && whole (owedOf state)) ⌝ }
+    ensures { λ r. ⌜ r ≡ (ltb 0 len && leb len nameLimit && whole (owedOf state)) ⌝ }
 {
     if len == 0 {
         return false;
     }
-    if 210 < len {
+    if NAME_BYTES < len {
         return false;
     }
     is_whole(state)

@@ -3,7 +3,7 @@ use Prim.Native.Nat.{_<_}
 use native.Mathlib.Omega.{arith}
 use borrow.Author.Needs.{needs}
 use mathlib.Core.Path.{sym, ap, subst}
-use Rattle.sheet.specs.Lines.{sheetLimit}
+use Rattle.sheet.specs.Limits.{sheetLimit}
 use Rattle.sheet.specs.Inputs.{Placed}
 use Rattle.exports.specs.Codes.{refusalCode}
 use Rattle.exports.proofs.refusal_code.Statement.{statement}

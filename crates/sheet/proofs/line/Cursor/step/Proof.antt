@@ -205,7 +205,7 @@ returns-7 c =
     let m = ap (beginsWith between) (to-name-end (sheet-of d) (at-of d) e f pe pf) ∙ between-at (b .before .before .before .before .before) ∙ not-false _ (b .before .before .before .before .if4 .left) in
     let k = ap (beginsWith closing) (to-value-end (sheet-of d) (at-of d) e f pe pf) ∙ closed-at b ∙ not-false _ (c .before .before .before .before .if5 .left) in
     let g = sym (name-good (sheet-of d) (at-of d)) ∙ sym (n .read-name .ensures .2) ∙ not-false _ (b .before .before .before .before .before .before .before .before .if3 .left) in
-    at-form (sheet-of d) (at-of d) e f pe pf (d .if1 .left) (formed t (shaped t h m k) g (meaning-at (c .before) ∙ not-false _ (c .if6 .left)))
+    at-form (sheet-of d) (at-of d) e f pe pf _ (letter-at (sheet-of d) (at-of d) _ (head-of (n .before))) (d .if1 .left) (formed t (shaped t h m k) g (meaning-at (c .before) ∙ not-false _ (c .if6 .left)))
 
 pub step-spec : {M : Type 1} → statement M
 step-spec =

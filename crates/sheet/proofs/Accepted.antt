@@ -9,13 +9,14 @@ use native.Mathlib.Omega.{arith}
 use lib.ListN.{length, take, drop, getD}
 use lib.Dec.{ltb}
 use borrow.Author.Tests.{ltb-false}
-use Rattle.runs.specs.Runs.{pick, cmp}
+use Rattle.runs.specs.Runs.{pick, cmp, isLess}
 use Rattle.runs.specs.declared.Order.{Order}
 use Rattle.runs.specs.declared.Order.the-variants.{Less, Equal, Greater}
 use Rattle.runs.proofs.Ordered.{cmp-trans}
 use Rattle.sheet.specs.Forms.{isForm, key}
-use Rattle.sheet.specs.Lines.{startsOf, lineAt, isLess, judged, sheetLimit, sheetCheck}
+use Rattle.sheet.specs.Limits.{sheetLimit}
+use Rattle.sheet.specs.Lines.{startsOf, lineAt, judged, sheetCheck}
 use Rattle.sheet.specs.declared.check.SheetCheck.the-variants.{Accepted, TooLong, NoForm, NotAbove}
 
 pub accepted-short : (s : List ℕ) → sheetCheck s ≡ Accepted → length s ≤ sheetLimit
 unfolding sheetCheck

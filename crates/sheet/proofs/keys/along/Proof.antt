@@ -1,4 +1,4 @@
--- `search::along` meets its contract: what is left of the name stands to what is left of the head as the name does to the head.
+-- `keys::along` meets its contract: what is left of the name stands to what is left of the head as the name does to the head.
 -- Assumes nothing.
 use mathlib.Core.Path.{_≡_, refl, sym, _∙_}
 use Prim.Native.Nat.{_-_, _≤_}
@@ -6,11 +6,10 @@ use native.Mathlib.Nat.{le-antisymm}
 use native.Mathlib.Numerals.{add-one}
 use native.Mathlib.Omega.{arith}
 use lib.ListN.{length, drop}
-use Rattle.lookup.specs.Starts.{spaced}
-use Rattle.lookup.specs.Search.{headed}
-use Rattle.lookup.proofs.Upto.{spaced-past, spaced-none, spaced-cons, head-ended, head-less, head-greater, head-same, head-all}
-use Rattle.lookup.proofs.search.along.Statement.{statement}
-use Rattle.lookup.proofs.search.along.Tie as tie
+use Rattle.sheet.specs.Keys.{spaced, headed}
+use Rattle.sheet.proofs.Spaced.{spaced-past, spaced-none, spaced-cons, head-ended, head-less, head-greater, head-same, head-all}
+use Rattle.sheet.proofs.keys.along.Statement.{statement}
+use Rattle.sheet.proofs.keys.along.Tie as tie
 
 abbrev Inv-loop : tie.InvT-loop
 Inv-loop t p i₀ i = (i ≤ length p) × (headed (spaced t) p ≡ headed (spaced (drop i t)) (drop i p))

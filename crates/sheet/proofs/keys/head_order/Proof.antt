@@ -1,4 +1,4 @@
--- `begins::head_order` meets its contract: a form has its letter at its second byte and its name, up to a space, from its fourth on.
+-- `keys::head_order` meets its contract: a form has its letter at its second byte and its name, up to a space, from its fourth on.
 -- Assumes nothing.
 use mathlib.Core.Path.{sym, ap, _∙_}
 use mathlib.Core.List.{List}
@@ -8,47 +8,46 @@ use native.Mathlib.Omega.{arith}
 use lib.ListN.{length, drop, length-drop}
 use lib.Seq.{take-all}
 use borrow.Author.Needs.{needs}
-use Rattle.lookup.specs.Starts.{spaced}
-use Rattle.lookup.specs.Search.{headed}
-use Rattle.lookup.proofs.Forms.{line-room}
-use Rattle.lookup.proofs.Begun.{letter-less, letter-greater, letter-same}
-use Rattle.lookup.proofs.begins.head_order.Statement.{statement}
-use Rattle.lookup.proofs.begins.head_order.Tie as tie
+use Rattle.sheet.specs.Keys.{spaced, headed}
+use Rattle.sheet.proofs.Forms.{line-fits, line-letter}
+use Rattle.sheet.proofs.Spaced.{head-line-less, head-line-greater, head-line-same}
+use Rattle.sheet.proofs.keys.head_order.Statement.{statement}
+use Rattle.sheet.proofs.keys.head_order.Tie as tie
 
 add-first : tie.Need-add-first
 add-first c =
     let d = c .before .before in
-    omega (arith, line-room (d .args .sheet .now) (d .args .at) (d .pre))
+    omega (arith, line-fits (d .args .sheet .now) (d .args .at) (d .pre))
 
 shared-slice-read-first : tie.Need-shared-slice-read-first
 shared-slice-read-first c =
     let d = c .before .before .before in
-    omega (arith, line-room (d .args .sheet .now) (d .args .at) (d .pre))
+    omega (arith, line-fits (d .args .sheet .now) (d .args .at) (d .pre))
 
 returns : tie.Need-returns
 returns c =
     let d = c .before .before .before .before in
-    sym (letter-less (d .args .sheet .now) (d .args .at) (d .pre) (d .args .letter) (d .args .head .now) (c .if1 .taken))
+    sym (head-line-less (d .args .sheet .now) (d .args .at) (d .pre) (d .args .letter) (d .args .head .now) (c .if1 .taken))
 
 returns-2 : tie.Need-returns-2
 returns-2 c =
     let d = c .before .before .before .before .before in
-    sym (letter-greater (d .args .sheet .now) (d .args .at) (d .pre) (d .args .letter) (d .args .head .now) (c .if2 .taken))
+    sym (head-line-greater (d .args .sheet .now) (d .args .at) (d .pre) (d .args .letter) (d .args .head .now) (c .if2 .taken))
 
 add-from : tie.Need-add-from
 add-from c =
     let d = c .before .before .before .before .before in
-    omega (arith, line-room (d .args .sheet .now) (d .args .at) (d .pre))
+    omega (arith, line-fits (d .args .sheet .now) (d .args .at) (d .pre))
 
 sub-along : tie.Need-sub-along
 sub-along c =
     let d = c .before .before .before .before .before in
-    omega (arith, line-room (d .args .sheet .now) (d .args .at) (d .pre))
+    omega (arith, line-fits (d .args .sheet .now) (d .args .at) (d .pre))
 
 part-along-start : tie.Need-part-along-start
 part-along-start c =
     let d = c .before .before .before .before .before in
-    omega (arith, line-room (d .args .sheet .now) (d .args .at) (d .pre))
+    omega (arith, line-fits (d .args .sheet .now) (d .args .at) (d .pre))
 
 part-along-end : tie.Need-part-along-end
 part-along-end c = search needs
@@ -64,7 +63,7 @@ returns-3 c =
     let n = d .args .at + 3 in
     let h : length (drop n s) ≤ length s - n = simp length-drop (omega arith) in
     c .along .ensures ∙ ap (λ (l : List ℕ). headed (spaced l) (d .args .head .now)) (take-all _ _ h)
-    ∙ sym (letter-same s (d .args .at) (d .pre) (d .args .letter) (d .args .head .now) (le-antisymm (e .if2 .left) (e .before .if1 .left)))
+    ∙ sym (head-line-same s (d .args .at) (d .pre) (d .args .letter) (d .args .head .now) (line-letter s (d .args .at) (d .pre) ∙ le-antisymm (e .if2 .left) (e .before .if1 .left)))
 
 pub head-order-spec : {M : Type 1} → statement M
 head-order-spec =

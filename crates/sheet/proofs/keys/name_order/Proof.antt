@@ -1,11 +1,11 @@
--- `search::name_order` meets its contract: a name that begins with q is q where it ends with it, and above q where it goes on.
+-- `keys::name_order` meets its contract: a name that begins with q is q where it ends with it, and above q where it goes on.
 -- Assumes nothing.
 use native.Mathlib.Omega.{arith}
 use lib.ListN.{length}
 use borrow.Author.Needs.{needs}
-use Rattle.lookup.proofs.Upto.{spaced-past, spaced-none, spaced-cons, name-decides, name-leaves}
-use Rattle.lookup.proofs.search.name_order.Statement.{statement}
-use Rattle.lookup.proofs.search.name_order.Tie as tie
+use Rattle.sheet.proofs.Spaced.{spaced-past, spaced-none, spaced-cons, name-decides, name-leaves}
+use Rattle.sheet.proofs.keys.name_order.Statement.{statement}
+use Rattle.sheet.proofs.keys.name_order.Tie as tie
 
 along-requires : tie.Need-along-requires
 along-requires c κs = search needs
