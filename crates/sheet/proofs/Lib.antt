@@ -9,5 +9,6 @@ pub mod Spaced
 pub mod Lines
 pub mod Walks
 pub mod Accepted
+pub mod Texts
 pub mod Faults
 pub mod Refusals

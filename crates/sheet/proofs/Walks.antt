@@ -66,11 +66,11 @@ module _ (s last : List ℕ) (at : ℕ) (rest : List ℕ) where
   unfolding judged
   judged-not-above e f = rw (e, f)
 
-  judged-on : isForm (drop at s) ≡ true → isLess (cmp last (key (lineAt s at))) ≡ true → judged s last (at ∷ rest) ≡ judged s (key (lineAt s at)) rest
+  pub judged-on : isForm (drop at s) ≡ true → isLess (cmp last (key (lineAt s at))) ≡ true → judged s last (at ∷ rest) ≡ judged s (key (lineAt s at)) rest
   unfolding judged
   judged-on e f = rw (e, f)
 
-judged-end : (s last : List ℕ) → judged s last [] ≡ Accepted
+pub judged-end : (s last : List ℕ) → judged s last [] ≡ Accepted
 unfolding judged
 judged-end s last = refl
 

@@ -3,12 +3,12 @@
 use Prim.Native.Nat.{ℕ, zero, suc}
 use mathlib.Core.Bool.{Bool, true, false, not}
 use mathlib.Core.Path.{_≡_}
-use mathlib.Core.List.{List, [], _∷_, map}
+use mathlib.Core.List.{List, [], _∷_, _++_, map}
 use lib.ListN.{length, drop}
 use lib.Dec.{eqb, ltb}
 use Rattle.runs.specs.Runs.{pick, cmp, isLess}
 use Rattle.sheet.specs.Limits.{sheetLimit}
-use Rattle.sheet.specs.Forms.{Entry, entryOf, isForm, key}
+use Rattle.sheet.specs.Forms.{Entry, entryOf, written, isForm, key}
 use Rattle.sheet.specs.declared.check.SheetCheck.{SheetCheck}
 use Rattle.sheet.specs.declared.check.SheetCheck.the-variants.{Accepted, TooLong, NoForm, NotAbove}
 
@@ -33,6 +33,11 @@ lineAt s at = entryOf (drop at s)
 -- the sheet's entries, in its order
 abbrev pub linesOf : List ℕ → List Entry
 linesOf s = map (lineAt s) (startsOf s)
+
+-- the sheet that entries make, each written out
+abbrev pub sheetText : List Entry → List ℕ
+sheetText [] = []
+sheetText (e ∷ es) = written e ++ sheetText es
 
 -- the first faulty line among those that begin at the places given, after a line with the key `last`: no form, or a form not above
 unfoldable pub judged : List ℕ → List ℕ → List ℕ → SheetCheck
