@@ -106,15 +106,15 @@ pub fn head_order(sheet: &[u8], at: usize, letter: u8, head: &[u8]) -> Order
     requires { ⌜ isForm (drop at (now sheet)) ≡ true ⌝ }
     ensures { λ r. ⌜ r ≡ headed (key (lineAt (now (sheet .entry)) at)) (keyOf letter (now (head .entry))) ⌝ }
 {
-    let first = sheet[at + 1];
-    if first < letter {
+    let own = sheet[at + 1];
+    if own < letter {
         return Order::Less;
     }
-    if letter < first {
+    if letter < own {
         return Order::Greater;
     }
-    let from = at + 3;
-    along(&sheet[from..], head)
+    let start = at + 3;
+    along(&sheet[start..], head)
 }
 
 // The order of the line that begins at `at` and the question, where the line is one of the letter whose name begins with `p`.
@@ -123,6 +123,6 @@ pub fn order_behind(sheet: &[u8], at: usize, letter: u8, p: &[u8], q: &[u8]) -> 
     requires { ⌜ (isForm (drop at (now sheet)) ≡ true) × (headed (key (lineAt (now sheet) at)) (keyOf letter (now p)) ≡ Equal) ⌝ }
     ensures { λ r. ⌜ r ≡ cmp (key (lineAt (now (sheet .entry)) at)) (keyOf letter (now (p .entry) ++ now (q .entry))) ⌝ }
 {
-    let from = at + 3;
-    rest_order(&sheet[from..], p, q)
+    let name = at + 3;
+    rest_order(&sheet[name..], p, q)
 }

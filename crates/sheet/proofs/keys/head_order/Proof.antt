@@ -14,13 +14,13 @@ use Rattle.sheet.proofs.Spaced.{head-line-less, head-line-greater, head
 use Rattle.sheet.proofs.keys.head_order.Statement.{statement}
 use Rattle.sheet.proofs.keys.head_order.Tie as tie
 
-add-first : tie.Need-add-first
-add-first c =
+add-own : tie.Need-add-own
+add-own c =
     let d = c .before .before in
     omega (arith, line-fits (d .args .sheet .now) (d .args .at) (d .pre))
 
-shared-slice-read-first : tie.Need-shared-slice-read-first
-shared-slice-read-first c =
+shared-slice-read-own : tie.Need-shared-slice-read-own
+shared-slice-read-own c =
     let d = c .before .before .before in
     omega (arith, line-fits (d .args .sheet .now) (d .args .at) (d .pre))
 
@@ -34,8 +34,8 @@ returns-2 c =
     let d = c .before .before .before .before .before in
     sym (head-line-greater (d .args .sheet .now) (d .args .at) (d .pre) (d .args .letter) (d .args .head .now) (c .if2 .taken))
 
-add-from : tie.Need-add-from
-add-from c =
+add-start : tie.Need-add-start
+add-start c =
     let d = c .before .before .before .before .before in
     omega (arith, line-fits (d .args .sheet .now) (d .args .at) (d .pre))
 
@@ -68,4 +68,4 @@ returns-3 c =
 pub head-order-spec : {M : Type 1} → statement M
 head-order-spec =
     tie.close
-    (tie.spec add-first shared-slice-read-first returns returns-2 add-from sub-along part-along-start part-along-end along-requires returns-3)
+    (tie.spec add-own shared-slice-read-own returns returns-2 add-start sub-along part-along-start part-along-end along-requires returns-3)

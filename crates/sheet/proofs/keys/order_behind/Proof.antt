@@ -17,8 +17,8 @@ use Rattle.sheet.proofs.keys.order_behind.Tie as tie
 room : (b : tie.Start) → b .args .at + 3 ≤ length (b .args .sheet .now)
 room b = omega (arith, line-fits (b .args .sheet .now) (b .args .at) (b .pre .0))
 
-add-from : tie.Need-add-from
-add-from c = let b = c .before .before .before in omega (arith, line-fits (b .args .sheet .now) (b .args .at) (b .pre .0))
+add-name : tie.Need-add-name
+add-name c = let b = c .before .before .before in omega (arith, line-fits (b .args .sheet .now) (b .args .at) (b .pre .0))
 
 sub-rest-order : tie.Need-sub-rest-order
 sub-rest-order c = room (c .before .before .before)
@@ -54,4 +54,4 @@ returns c =
 
 pub order-behind-spec : {M : Type 1} → statement M
 order-behind-spec =
-    tie.close (tie.spec add-from sub-rest-order part-rest-order-start part-rest-order-end rest-order-requires returns)
+    tie.close (tie.spec add-name sub-rest-order part-rest-order-start part-rest-order-end rest-order-requires returns)
