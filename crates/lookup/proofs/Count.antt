@@ -3,7 +3,7 @@
 use mathlib.Core.Path.{_≡_, refl, sym, ap, _∙_}
 use mathlib.Core.Bool.{Bool, true, false}
 use mathlib.Core.List.{List, [], _∷_, _++_, append-assoc}
-use Prim.Native.Nat.{ℕ, zero, suc, _+_, _-_, _*_, _<_, _≤_}
+use Prim.Native.Nat.{ℕ, zero, suc, _+_, _-_, _*_, _/_, _<_, _≤_}
 use native.Mathlib.Numerals.{add-one}
 use native.Mathlib.Omega.{arith}
 use lib.ListN.{length, take, drop, getD, set, length-append, length-drop, drop-of-length-le, take-append-drop}
@@ -12,7 +12,7 @@ use lib.Dec.{eqb, ltb}
 use borrow.Author.Tests.{ltb-true, ltb-false}
 use Rattle.runs.specs.Runs.{pick}
 use Rattle.sheet.specs.Forms.{key}
-use Rattle.sheet.specs.Limits.{sheetLimit, shortestLine, lineLimit}
+use Rattle.sheet.specs.Limits.{sheetLimit, shortestLine, lineLimit, smallLimit}
 use Rattle.sheet.specs.Lines.{lineAt, startsFrom, startsOf, sheetCheck}
 use Rattle.sheet.specs.Steps.{valueEnd}
 use Rattle.sheet.specs.Replies.{Indexed}
@@ -54,8 +54,8 @@ pub roomy : (s out : List ℕ) → lineLimit ≤ length out → Room s out
 unfolding Room
 roomy s out l = λ h. omega (arith, l, h)
 
--- a sheet of at most 4,096 bytes has at most 409 lines
-pub few-room : (s out : List ℕ) → length s ≤ 4096 → 409 ≤ length out → Room s out
+-- the same of a small sheet
+pub few-room : (s out : List ℕ) → length s ≤ smallLimit → smallLimit / shortestLine ≤ length out → Room s out
 unfolding Room
 few-room s out l n = λ h. omega (arith, l, n)
 

@@ -8,6 +8,7 @@ use lib.Dec.{eqb}
 use Rattle.runs.specs.Runs.{pick, sameText, cmp}
 use Rattle.runs.specs.declared.Order.{Order}
 use Rattle.runs.specs.declared.Order.the-variants.{Less, Equal, Greater}
+use Rattle.sheet.specs.Limits.{enoughRounds}
 use Rattle.sheet.specs.Forms.{isForm, key, keyOf}
 use Rattle.sheet.specs.Lines.{startsOf, lineAt}
 use Rattle.sheet.specs.Replies.{Reply, unknown, told, reply}
@@ -39,10 +40,6 @@ asked (suc k) s places q =
     (At (getD places (length places / 2) 0))
     (asked k s (take (length places / 2) places) q))
 
--- the rounds that are enough for every accepted sheet
-abbrev pub enoughRounds : ℕ
-enoughRounds = 13
-
 -- what the line found replies
 abbrev pub answerAt : List ℕ → Found → Reply
 answerAt s Nothing = unknown
@@ -58,7 +55,7 @@ abbrev pub Placed : List ℕ → ℕ → List ℕ → Found → Type 0
 Placed s letter name Nothing = Unit {0}
 Placed s letter name (At at) = Stands s letter name at
 
--- what a search gives: the question's line, found in so many rounds, which replies what the sheet does
+-- what a search gives: the question's line, as so many rounds find it, which replies what the sheet does
 pub record Sought (s : List ℕ) (letter : ℕ) (name : List ℕ) (r : Found) : Type 0 where
   pub settled : r ≡ placeOf s letter name
   pub counted : r ≡ asked enoughRounds s (startsOf s) (keyOf letter name)

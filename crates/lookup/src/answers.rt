@@ -62,7 +62,8 @@ pub(crate) fn value_of(sheet: &[u8], starts: &[Start], letter: u8, p: &[u8], q: 
     requires { ⌜ Indexed (now sheet) (now starts) ⌝ }
     ensures { λ r. ⌜ ValueOf (now (sheet .entry)) letter (now (p .entry) ++ now (q .entry)) r ⌝ }
 {
-    let line = seek(sheet, starts, letter, p, q);
+    let search = seek(sheet, starts, letter, p, q);
+    let line = search.found;
     value_at(sheet, line)
 }
 
@@ -72,7 +73,8 @@ pub fn spot_of(sheet: &[u8], starts: &[Start], p: &[u8], q: &[u8]) -> Spot
     requires { ⌜ Indexed (now sheet) (now starts) ⌝ }
     ensures { λ r. ⌜ NameOf (now (sheet .entry)) 0x77 (now (p .entry) ++ now (q .entry)) r ⌝ }
 {
-    let line = seek(sheet, starts, b'w', p, q);
+    let search = seek(sheet, starts, b'w', p, q);
+    let line = search.found;
     let Found::At(at) = line else {
         return Spot {
             found: false,

@@ -16,3 +16,11 @@ shortestLine = 10
 -- the most lines of an accepted sheet
 abbrev pub lineLimit : ℕ
 lineLimit = sheetLimit / shortestLine
+
+-- the most bytes of a sheet whose starts are stored in a short list
+abbrev pub smallLimit : ℕ
+smallLimit = 4096
+
+-- the rounds of a search by halves that are enough for every accepted sheet
+abbrev pub enoughRounds : ℕ
+enoughRounds = 13

@@ -117,14 +117,14 @@ pub fn are_letters(v: &[u8]) -> bool
         }
         return v.len() - w == 0;
     }
-    let r = skip(v, h, b'v');
-    let p = skip(v, r, b'p');
-    let e = skip(v, p, b'e');
-    if r < p {
-        return closes_at(v, e);
+    let past_v = skip(v, h, b'v');
+    let past_p = skip(v, past_v, b'p');
+    let past_e = skip(v, past_p, b'e');
+    if past_v < past_p {
+        return closes_at(v, past_e);
     }
-    if p < e {
+    if past_p < past_e {
         return false;
     }
-    closes_at(v, e)
+    closes_at(v, past_e)
 }

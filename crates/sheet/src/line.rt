@@ -79,8 +79,8 @@ pub fn name_end(s: &[u8], at: usize) -> usize
     requires { ⌜ isForm (drop at (now s)) ≡ true ⌝ }
     ensures { λ r. ⌜ r ≡ nameEnd (now (s .entry)) at ⌝ }
 {
-    let from = at + 3;
-    find(s, from, s.len(), b' ')
+    let name = at + 3;
+    find(s, name, s.len(), b' ')
 }
 
 // Where its value ends; the name ends at `end`.
@@ -88,8 +88,8 @@ pub fn value_end(s: &[u8], at: usize, end: usize) -> usize
     requires { ⌜ (isForm (drop at (now s)) ≡ true) × (end ≡ nameEnd (now s) at) ⌝ }
     ensures { λ r. ⌜ r ≡ valueEnd (now (s .entry)) at ⌝ }
 {
-    let from = end + 2;
-    find(s, from, s.len(), b')')
+    let value = end + 2;
+    find(s, value, s.len(), b')')
 }
 
 // A place in the sheet at which a line begins.

@@ -19,7 +19,7 @@ use Rattle.lookup.proofs.answers.spot_of.Tie as tie
 line : (c : tie.After-known-told) →
     let a = c .before .before .before .before .before .before .before .before .args in
     Sought (a .sheet .now) 0x77 (a .p .now ++ a .q .now) (At (c .before .line .given .0 .0))
-line c = rw (c .before .line .given .1) at (c .before .before .before .seek .ensures)
+line c = rw (c .before .line .given .1) at (c .before .before .before .seek .ensures .0)
 
 room : (c : tie.After-known-told) →
     let a = c .before .before .before .before .before .before .before .before .args in
@@ -38,7 +38,7 @@ enum-told : tie.Need-enum-told
 enum-told c = search needs
 
 returns : tie.Need-returns
-returns c = name-of _ _ _ _ _ (rw (c .enum-told .given .1) at (c .before .before .seek .ensures)) refl (omega arith)
+returns c = name-of _ _ _ _ _ (rw (c .enum-told .given .1) at (c .before .before .seek .ensures .0)) refl (omega arith)
 
 add-from : tie.Need-add-from
 add-from c = omega (arith, room c)

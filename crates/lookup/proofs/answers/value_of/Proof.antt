@@ -9,12 +9,12 @@ seek-requires : tie.Need-seek-requires
 seek-requires c κs = search needs
 
 value-at-requires : tie.Need-value-at-requires
-value-at-requires c κs = parts.form-at _ _ _ (c .seek .result) (c .seek .ensures)
+value-at-requires c κs = parts.form-at _ _ _ (c .seek .result .found) (c .seek .ensures .0)
 
 returns : tie.Need-returns
 returns c =
     let s = c .before in
-    parts.value-of _ _ _ (s .seek .result) _ (s .seek .ensures) (c .value-at .ensures .0) (c .value-at .ensures .1)
+    parts.value-of _ _ _ (s .seek .result .found) _ (s .seek .ensures .0) (c .value-at .ensures .0) (c .value-at .ensures .1)
 
 pub value-of-spec : {M : Type 1} → statement M
 value-of-spec = tie.close (tie.spec seek-requires value-at-requires returns)

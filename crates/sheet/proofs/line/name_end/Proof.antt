@@ -10,8 +10,8 @@ use Rattle.sheet.proofs.Forms.{line-fits, name-ends}
 use Rattle.sheet.proofs.line.name_end.Statement.{statement}
 use Rattle.sheet.proofs.line.name_end.Tie as tie
 
-add-from : tie.Need-add-from
-add-from c = let b = c .before in omega (arith, line-fits (b .args .s .now) (b .args .at) (b .pre))
+add-name : tie.Need-add-name
+add-name c = let b = c .before in omega (arith, line-fits (b .args .s .now) (b .args .at) (b .pre))
 
 find-requires : tie.Need-find-requires
 find-requires c κs = let b = c .before in (omega (arith, line-fits (b .args .s .now) (b .args .at) (b .pre)), omega arith)
@@ -25,4 +25,4 @@ returns c =
     c .find .ensures .0 ∙ ap (λ (l : List ℕ). n + indexOf 0x20 (drop n l)) (take-length s) ∙ name-ends s (b .args .at) (b .pre)
 
 pub name-end-spec : {M : Type 1} → statement M
-name-end-spec = tie.close (tie.spec add-from find-requires returns)
+name-end-spec = tie.close (tie.spec add-name find-requires returns)

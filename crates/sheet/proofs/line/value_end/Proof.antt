@@ -10,8 +10,8 @@ use Rattle.sheet.proofs.Forms.{line-fits, value-ends}
 use Rattle.sheet.proofs.line.value_end.Statement.{statement}
 use Rattle.sheet.proofs.line.value_end.Tie as tie
 
-add-from : tie.Need-add-from
-add-from c = let b = c .before in omega (arith, line-fits (b .args .s .now) (b .args .at) (b .pre .0), b .pre .1)
+add-value : tie.Need-add-value
+add-value c = let b = c .before in omega (arith, line-fits (b .args .s .now) (b .args .at) (b .pre .0), b .pre .1)
 
 find-requires : tie.Need-find-requires
 find-requires c κs = let b = c .before in (omega (arith, line-fits (b .args .s .now) (b .args .at) (b .pre .0), b .pre .1), omega arith)
@@ -26,4 +26,4 @@ returns c =
     ∙ ap (λ (e : ℕ). e + 2 + indexOf 0x29 (drop (e + 2) s)) (b .pre .1) ∙ value-ends s (b .args .at) (b .pre .0)
 
 pub value-end-spec : {M : Type 1} → statement M
-value-end-spec = tie.close (tie.spec add-from find-requires returns)
+value-end-spec = tie.close (tie.spec add-value find-requires returns)

@@ -1,4 +1,4 @@
--- `decompose_in` meets its contract. Assumes nothing.
+-- `decompose_word` meets its contract. Assumes nothing.
 use mathlib.Core.Path.{_≡_, ap}
 use Rattle.tables.specs.declared.origins.Origin.{Origin}
 use Rattle.origin.specs.declared.OriginDecision.{OriginDecision}
@@ -6,8 +6,8 @@ use Rattle.decomposition.specs.declared.Parts.{Parts}
 use Rattle.decomposition.specs.declared.Morpheme.{Morpheme}
 use Rattle.decomposition.specs.Parts.{morphemeOf}
 use borrow.Author.Needs.{needs}
-use Rattle.decomposition.proofs.decompose_in.Statement.{statement}
-use Rattle.decomposition.proofs.decompose_in.Tie as tie
+use Rattle.decomposition.proofs.decompose_word.Statement.{statement}
+use Rattle.decomposition.proofs.decompose_word.Tie as tie
 
 suffixes-requires : tie.Need-suffixes-requires
 suffixes-requires c κs = search needs
@@ -36,18 +36,18 @@ slice-aggregate-decomposed-4 c = search needs
 decomposed-requires : tie.Need-decomposed-requires
 decomposed-requires c κs = search needs
 
-classify-in-requires : tie.Need-classify-in-requires
-classify-in-requires c κs = search needs
+decide-origin-requires : tie.Need-decide-origin-requires
+decide-origin-requires c κs = search needs
 
 same-morpheme : {p q : Parts} {o u : Origin} → p ≡ q → o ≡ u → _≡_ {A = Morpheme} (record { parts = p; origin = o }) (record { parts = q; origin = u })
 same-morpheme e f = cc
 
 returns : tie.Need-returns
 unfolding morphemeOf
-returns c = same-morpheme (c .before .decomposed .ensures) (ap (λ (d : OriginDecision). d .origin) (c .classify-in .ensures))
+returns c = same-morpheme (c .before .decomposed .ensures) (ap (λ (d : OriginDecision). d .origin) (c .decide-origin .ensures))
 
-pub decompose-in-spec : {M : Type 1} → statement M
-decompose-in-spec =
+pub decompose-word-spec : {M : Type 1} → statement M
+decompose-word-spec =
     tie.close
     (tie.spec
     suffixes-requires
@@ -59,5 +59,5 @@ decompose-in-spec =
     slice-aggregate-decomposed-3
     slice-aggregate-decomposed-4
     decomposed-requires
-    classify-in-requires
+    decide-origin-requires
     returns)

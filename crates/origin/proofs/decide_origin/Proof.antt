@@ -1,10 +1,10 @@
--- `classify_in` meets its contract: the rules stand in the definition's order. Assumes nothing.
+-- `decide_origin` meets its contract: the rules stand in the definition's order. Assumes nothing.
 use mathlib.Core.Path.{sym, _∙_}
 use Rattle.sheet.specs.Replies.{reply}
 use Rattle.origin.proofs.Decided.{by-none, by-table, by-own}
 use borrow.Author.Needs.{needs}
-use Rattle.origin.proofs.classify_in.Statement.{statement}
-use Rattle.origin.proofs.classify_in.Tie as tie
+use Rattle.origin.proofs.decide_origin.Statement.{statement}
+use Rattle.origin.proofs.decide_origin.Tie as tie
 
 no-evidence-requires : tie.Need-no-evidence-requires
 no-evidence-requires c κs = search needs
@@ -73,8 +73,8 @@ returns-5 c =
     ∙ by-own (reply (a .sheet .now)) (a .word .now) _ (l .before .if1 .left) (sym (k .before .enum-told .given .1) ∙ l .listed .ensures)
     (sym (c .before .enum-told3 .given .1) ∙ k .known-by .ensures)
 
-pub classify-in-spec : {M : Type 1} → statement M
-classify-in-spec =
+pub decide-origin-spec : {M : Type 1} → statement M
+decide-origin-spec =
     tie.close
     (tie.spec
     no-evidence-requires

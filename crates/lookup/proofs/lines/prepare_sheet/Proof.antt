@@ -1,9 +1,9 @@
--- `lines::sheet_ready` meets its contract, answer by answer. Assumes nothing.
+-- `lines::prepare_sheet` meets its contract, answer by answer. Assumes nothing.
 use mathlib.Core.Path.{refl}
 use borrow.Author.Needs.{needs}
 use Rattle.lookup.proofs.Readied.{sheet-ready}
-use Rattle.lookup.proofs.lines.sheet_ready.Statement.{statement}
-use Rattle.lookup.proofs.lines.sheet_ready.Tie as tie
+use Rattle.lookup.proofs.lines.prepare_sheet.Statement.{statement}
+use Rattle.lookup.proofs.lines.prepare_sheet.Tie as tie
 
 check-lines-requires : tie.Need-check-lines-requires
 check-lines-requires c κs = search needs
@@ -54,8 +54,8 @@ returns-4 c =
     let k = i .before .before .before .before in
     sheet-ready _ _ _ (k .check-lines .result) (k .check-lines .ensures) _ _ (i .said2 .given .1) refl
 
-pub sheet-ready-spec : {M : Type 1} → statement M
-sheet-ready-spec =
+pub prepare-sheet-spec : {M : Type 1} → statement M
+prepare-sheet-spec =
     tie.close
     (tie.spec
     check-lines-requires
