@@ -1,6 +1,8 @@
 // The core call and the two beside it: a word and a sheet lent, each tested before anything is asked, the list by value.
 use crate::suffixes::visit;
-use lookup::lines::prepare;
+use lookup::lines::first_refusal;
+use lookup::lines::prepare_sheet;
+use lookup::lines::prepare_word;
 use lookup::starts::Start;
 use paths::Chain;
 use paths::Piece;
@@ -14,6 +16,9 @@ use ranking::nothing;
 use ranking::rows::KEPT;
 use refusals::Refusal;
 use sheet::inputs::Inputs;
+use sheet::limits::ALL_STARTS;
+use sheet::limits::FEW_STARTS;
+use sheet::limits::SMALL_BYTES;
 ghost use mathlib.Core.Path.{_≡_};
 ghost use mathlib.Core.List.{[], _∷_};
 ghost use lib.ListN.{length, take};
@@ -113,18 +118,32 @@ fn listed(word: &[u8], sheet: &[u8], starts: &[Start]) -> Analysis
     }
 }
 
-// What is given for a word and a sheet, with a list that has room for the starts of the sheet's lines.
+// Every reading of the word that an accepted sheet supports, or why there is no list. `starts` are the first bytes of the sheet's lines.
+// Free: the rows past the count.
+pub fn analyze_affixes_in(word: &[u8], sheet: &[u8], starts: &[Start]) -> Analysis
+    requires { ⌜ Indexed (now sheet) (now starts) ⌝ }
+    ensures { λ r. ⌜ (r .said ≡ saidOf (now (word .entry)) (now (sheet .entry))) × (rowsOf (r .list) ≡ rowsGiven (now (word .entry)) (now (sheet .entry)))
+        × (r .list .count ≡ length (rowsGiven (now (word .entry)) (now (sheet .entry)))) ⌝ }
+{
+    let inputs = prepare_word(word);
+    match inputs {
+        Inputs::Refused(refusal) => refused(Said::Refused(refusal)),
+        Inputs::Accepted => listed(word, sheet, starts),
+    }
+}
+
+// The same by any sheet, with a list that has room for the starts of its lines.
 fn answered(word: &[u8], sheet: &[u8], starts: &mut [Start]) -> Analysis
     requires { ⌜ Room (now sheet) (now starts) ⌝ }
     ensures { λ r. ⌜ (r .said ≡ saidOf (now (word .entry)) (now (sheet .entry))) × (rowsOf (r .list) ≡ rowsGiven (now (word .entry)) (now (sheet .entry)))
         × (r .list .count ≡ length (rowsGiven (now (word .entry)) (now (sheet .entry)))) ⌝ }
 {
-    let ready = prepare(word, sheet, starts);
+    let ready = prepare_sheet(sheet, starts);
     let lines = ready.lines;
     let inputs = ready.inputs;
     match inputs {
-        Inputs::Refused(refusal) => refused(Said::Refused(refusal)),
-        Inputs::Accepted => listed(word, sheet, &starts[..lines]),
+        Inputs::Refused(refusal) => refused(Said::Refused(first_refusal(word, refusal))),
+        Inputs::Accepted => analyze_affixes_in(word, sheet, &starts[..lines]),
     }
 }
 
@@ -134,11 +153,11 @@ pub fn analyze_affixes(word: &[u8], sheet: &[u8]) -> Analysis
     ensures { λ r. ⌜ (r .said ≡ saidOf (now (word .entry)) (now (sheet .entry))) × (rowsOf (r .list) ≡ rowsGiven (now (word .entry)) (now (sheet .entry)))
         × (r .list .count ≡ length (rowsGiven (now (word .entry)) (now (sheet .entry)))) ⌝ }
 {
-    if sheet.len() <= 4096 {
-        let mut few: [Start; 410] = [0; 410];
+    if sheet.len() <= SMALL_BYTES {
+        let mut few: [Start; FEW_STARTS] = [0; FEW_STARTS];
         return answered(word, sheet, &mut few);
     }
-    let mut starts: [Start; 6554] = [0; 6554];
+    let mut starts: [Start; ALL_STARTS] = [0; ALL_STARTS];
     answered(word, sheet, &mut starts)
 }
 

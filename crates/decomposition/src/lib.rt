@@ -2,7 +2,7 @@
 use crate::fronts::first_front;
 use crate::suffixes::strip_rows;
 use lookup::starts::Start;
-use origin::classify_in;
+use origin::decide_origin;
 use ranking::part_of;
 use tables::origins::Origin;
 ghost use mathlib.Core.Path.{_≡_};
@@ -85,7 +85,7 @@ pub fn decomposed(
 
 // The decomposition of a word by an accepted sheet; the two tables are named here and lent down. `starts` are the first bytes of the
 // sheet's lines, and the word has at most 192 bytes.
-pub fn decompose_in(sheet: &[u8], starts: &[Start], word: &[u8]) -> Morpheme
+pub fn decompose_word(word: &[u8], sheet: &[u8], starts: &[Start]) -> Morpheme
     requires { ⌜ Indexed (now sheet) (now starts) × (length (now word) ≤ 192) ⌝ }
     ensures { λ r. ⌜ r ≡ morphemeOf (reply (now (sheet .entry))) (now (word .entry)) ⌝ }
 {
@@ -94,7 +94,7 @@ pub fn decompose_in(sheet: &[u8], starts: &[Start], word: &[u8]) -> Morpheme
     let forms = tables::prefix_forms();
     let form_cuts = tables::prefix_form_starts();
     let parts = decomposed(sheet, starts, word, &texts, &cuts, &forms, &form_cuts);
-    let decision = classify_in(sheet, starts, word);
+    let decision = decide_origin(word, sheet, starts);
     let origin = decision.origin;
     Morpheme {
         parts: parts,

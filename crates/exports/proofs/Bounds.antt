@@ -14,7 +14,8 @@ use Rattle.text.specs.Utf8.{isUtf8}
 use Rattle.text.specs.Names.{holdsForbidden}
 use Rattle.text.specs.Word.{wordLimit}
 use Rattle.sheet.specs.Forms.{isName, key, keyOf}
-use Rattle.sheet.specs.Lines.{sheetLimit, sheetCheck, startsOf, lineAt}
+use Rattle.sheet.specs.Limits.{sheetLimit}
+use Rattle.sheet.specs.Lines.{sheetCheck, startsOf, lineAt}
 use Rattle.sheet.specs.Replies.{reply}
 use Rattle.sheet.specs.Inputs.{inputsOf, Placed}
 use Rattle.sheet.specs.declared.check.SheetCheck.the-variants as sheets
@@ -26,8 +27,8 @@ use Rattle.lookup.specs.declared.search.Found.{Found}
 use Rattle.lookup.specs.declared.search.Found.the-variants.{At, Nothing}
 use Rattle.lookup.specs.Search.{placeOf}
 use Rattle.lookup.specs.Answers.{nameSpot}
-use Rattle.lookup.proofs.Accepted.{accepted-short, accepted-up, up-member}
-use Rattle.lookup.proofs.Forms.{form-named}
+use Rattle.sheet.proofs.Accepted.{accepted-short, accepted-up, up-member}
+use Rattle.sheet.proofs.Forms.{form-named}
 use Rattle.lookup.proofs.Halves.{place-asks}
 use Rattle.progressive.specs.declared.find.Progressive.{Progressive}
 use Rattle.progressive.specs.declared.entry.Answer.{Answer}
@@ -79,16 +80,12 @@ is-name-short x h =
     leb-true (length x) 210 (and-right (ltb 0 (length x)) (leb (length x) 210) b)
 
 -- a name that the sheet has a `w` line for is the name of a form
-name-short : (s name : List ℕ) (f : Found) → sheetCheck s ≡ sheets.Accepted → f ≡ placeOf s 0x77 name → nameSpot (length name) f .len ≤ 210
+name-short : (s name : List ℕ) (f : Found) → sheetCheck s ≡ sheets.Accepted → f ≡ placeOf s 0x77 name → nameSpot s f .len ≤ 210
 unfolding placeOf
 name-short s name Nothing h e = omega arith
 name-short s name (At at) h e =
     let a = place-asks s (keyOf 0x77 name) (startsOf s) at (sym e) in
-    let n = is-name-short (lineAt s at .name) (form-named (drop at s) (up-member s [] (startsOf s) at (accepted-up s h) (a .0))) in
-    let k : key (lineAt s at) ≡ keyOf 0x77 name = a .1 in
-    let m : lineAt s at .name ≡ name = cc in
-    let l : length (lineAt s at .name) ≡ length name = ap length m in
-    omega (arith, n)
+    is-name-short (lineAt s at .name) (form-named (drop at s) (up-member s [] (startsOf s) at (accepted-up s h) (a .0)))
 
 lemma-short : (w s : List ℕ) (o : Outcome) → sheetCheck s ≡ sheets.Accepted → formOf s w o .«lemma_len» ≤ 210
 lemma-short w s no h = omega arith

@@ -11,7 +11,7 @@ use Rattle.refusals.specs.declared.Written.{Written}
 use Rattle.refusals.specs.declared.Written.the-variants as written
 use Rattle.refusals.proofs.Outputs.{One, one-place}
 use Rattle.text.specs.Word.{wordLimit}
-use Rattle.sheet.specs.Lines.{sheetLimit}
+use Rattle.sheet.specs.Limits.{sheetLimit}
 use Rattle.sheet.specs.Inputs.{inputsOf}
 use Rattle.sheet.specs.declared.inputs.Inputs.{Inputs}
 use Rattle.sheet.specs.declared.inputs.Inputs.the-variants as inputs

@@ -10,21 +10,20 @@ use lib.Seq.{take-all, drop-drop, getD-drop, getD-take}
 use Rattle.runs.specs.Runs.{pick, sameText, cmp}
 use Rattle.runs.specs.declared.Order.{Order}
 use Rattle.runs.specs.declared.Order.the-variants.{Less, Equal, Greater}
-use Rattle.runs.proofs.Ordered.{Stand, stand, andThen, step-less, step-greater, step-same, cmp-refl, cmp-trans, cmp-turned, turned, same-true}
+use Rattle.runs.proofs.Ordered.{Stand, stand, andThen, cmp-refl, cmp-trans, cmp-turned, turned, same-true}
 use Rattle.runs.proofs.Ends.{same-lengths}
-use Rattle.sheet.specs.Forms.{entryOf, isForm, key, keyOf}
+use Rattle.sheet.specs.Forms.{key, keyOf}
 use Rattle.sheet.specs.Lines.{lineAt}
 use Rattle.sheet.specs.Replies.{Reply, reply, Indexed}
 use Rattle.lookup.specs.declared.begins.Edge.{Edge}
 use Rattle.lookup.specs.declared.begins.Range.{Range}
 use Rattle.lookup.specs.declared.search.Found.{Found}
 use Rattle.lookup.specs.declared.search.Found.the-variants.{At, Nothing}
-use Rattle.lookup.specs.Starts.{spaced}
-use Rattle.lookup.specs.Search.{headed, placeIn, judge, Sought}
+use Rattle.lookup.specs.Search.{placeIn, judge, Sought}
 use Rattle.lookup.specs.Begins.{headedAt, Begun, Edged, Ended}
-use Rattle.lookup.proofs.Upto.{head-parts, head-fits, spaced-drop}
-use Rattle.lookup.proofs.Forms.{name-spaced, line-room}
-use Rattle.lookup.proofs.Accepted.{GoesUp, accepted-up, up-pair, up-drop, up-take}
+use Rattle.sheet.specs.Keys.{headed}
+use Rattle.sheet.proofs.Spaced.{head-parts}
+use Rattle.sheet.proofs.Accepted.{GoesUp, accepted-up, up-pair, up-drop, up-take}
 use Rattle.lookup.proofs.Halves.{place-up, place-down, place-here}
 use Rattle.lookup.proofs.Rounds.{take-between, empty-place}
 use Rattle.lookup.proofs.Settled.{sought-placed}
@@ -148,20 +147,16 @@ module _ (s : List ℕ) (letter : ℕ) (head : List ℕ) where
               place-up s asks [] (take (r .hi) starts) n (up-take s [] (r .hi) starts up) l
               (ap (λ (y : ℕ). cmp (key (lineAt s y)) asks) w ∙ sym (order-of n Less b))
 
-      -- what follows the head in such a line begins inside the sheet
-      pub head-room : (i at : ℕ) → r .lo ≤ i → i < r .hi → at ≡ getD starts i 0 → isForm (drop at s) ≡ true → at + (3 + length head) ≤ length s
-      head-room i at a b w f =
-          let e : headed (key (lineAt s at)) (keyOf letter head) ≡ Equal =
-          ap (λ (z : ℕ). headed (key (lineAt s z)) (keyOf letter head)) w ∙ g .each i a b in
-          let m : length (keyOf letter head) ≤ length (key (lineAt s at)) = head-fits (key (lineAt s at)) (keyOf letter head) e in
-          omega (arith, line-room s at f)
+      -- such a line begins so
+      pub begun-at : (i at : ℕ) → r .lo ≤ i → i < r .hi → at ≡ getD starts i 0 → headed (key (lineAt s at)) (keyOf letter head) ≡ Equal
+      begun-at i at a b w = ap (λ (z : ℕ). headed (key (lineAt s z)) (keyOf letter head)) w ∙ g .each i a b
 
       -- one round, on the lines from number lo on that come before number hi
       pub among-round : (lo hi mid at : ℕ) (y o : Order) → r .lo ≤ lo → lo ≤ mid → mid < hi → hi ≤ r .hi → at ≡ getD starts mid 0 →
-          isForm (drop at s) ≡ true → y ≡ cmp (spaced (drop (at + (3 + length head)) s)) q → y ≡ o →
+          y ≡ cmp (key (lineAt s at)) asks → y ≡ o →
           placeIn s (drop lo (take hi starts)) asks ≡
           judge o (placeIn s (drop (mid + 1) (take hi starts)) asks) (At at) (placeIn s (drop lo (take mid starts)) asks)
-      among-round lo hi mid at y o a b c d w f e i = go o order
+      among-round lo hi mid at y o a b c d w e i = go o order
         where
           es : List ℕ
           es = drop lo (take hi starts)
@@ -177,23 +172,8 @@ module _ (s : List ℕ) (letter : ℕ) (head : List ℕ) where
               let m : lo + (mid - lo) ≡ mid = omega arith in
               getD-drop lo (take hi starts) (mid - lo) 0 ∙ ap (λ (z : ℕ). getD (take hi starts) z 0) m ∙ getD-take hi starts mid 0 (omega arith) ∙ sym w
 
-          begun : headed (key (lineAt s at)) (keyOf letter head) ≡ Equal
-          begun = ap (λ (z : ℕ). headed (key (lineAt s z)) (keyOf letter head)) w ∙ g .each mid (omega arith) (omega arith)
-
-          named : drop (length (keyOf letter head)) (key (lineAt s at)) ≡ spaced (drop (at + (3 + length head)) s)
-          named =
-              let t = drop at s in
-              let n : spaced (drop 3 t) ≡ lineAt s at .name = name-spaced t f in
-              let m : length (keyOf letter head) ≤ length (key (lineAt s at)) = head-fits (key (lineAt s at)) (keyOf letter head) begun in
-              let k : length head ≤ length (spaced (drop 3 t)) = rw n (omega arith) in
-              ap (λ (z : List ℕ). drop (length head) z) (sym n) ∙ spaced-drop (length head) (drop 3 t) k
-              ∙ ap spaced (drop-drop (length head) 3 t ∙ drop-drop (3 + length head) at s)
-
-          told : cmp (key (lineAt s at)) asks ≡ o
-          told = sym (head-decides at q _ Equal refl begun) ∙ ap (λ (z : List ℕ). cmp z q) named ∙ sym e ∙ i
-
           order : cmp (key (lineAt s (getD es (mid - lo) 0))) asks ≡ o
-          order = ap (λ (z : ℕ). cmp (key (lineAt s z)) asks) here ∙ told
+          order = ap (λ (z : ℕ). cmp (key (lineAt s z)) asks) here ∙ sym e ∙ i
 
           within : mid - lo < length es
           within = omega (arith, count)
@@ -241,20 +221,3 @@ module _ (s : List ℕ) (letter : ℕ) (head : List ℕ) where
           let unplaced : placeIn s es (keyOf letter (head ++ p)) ≡ Nothing → ⊥ =
           λ e. k (sym (sought-placed s starts letter (head ++ p) Nothing x (sym (among r g p ∙ e)) .answers)) in
           sym (sought-placed s starts letter (head ++ q) Nothing x (sym (among r g q ∙ one-line es few unplaced)) .answers)
-
--- the order of a form's line and the head: first by the letter, then by the name
-module _ (s : List ℕ) (at : ℕ) (h : isForm (drop at s) ≡ true) (letter : ℕ) (head : List ℕ) where
-  letter-of : lineAt s at .letter ≡ getD s (at + 1) 0
-  unfolding entryOf
-  letter-of = getD-drop at s 1 0
-
-  pub letter-less : getD s (at + 1) 0 < letter → headed (key (lineAt s at)) (keyOf letter head) ≡ Less
-  letter-less l = let k : lineAt s at .letter < letter = rw letter-of l in step-less _ _ _ k
-
-  pub letter-greater : letter < getD s (at + 1) 0 → headed (key (lineAt s at)) (keyOf letter head) ≡ Greater
-  letter-greater l = let k : letter < lineAt s at .letter = rw letter-of l in step-greater _ _ _ k
-
-  pub letter-same : getD s (at + 1) 0 ≡ letter → headed (key (lineAt s at)) (keyOf letter head) ≡ headed (spaced (drop (at + 3) s)) head
-  letter-same e =
-      step-same _ _ _ (letter-of ∙ e)
-      ∙ ap (λ (m : List ℕ). headed m head) (sym (name-spaced (drop at s) h) ∙ ap spaced (drop-drop 3 at s))

@@ -1,9 +1,9 @@
--- How many lines an accepted sheet has at most, and how a walk from line to line finds their first bytes.
+-- How many lines an accepted sheet has at most, and how their first bytes are stored one by one.
 -- The proofs of `check_lines` and `seek` cite it, and every caller that lends a list for the starts. Assumes nothing.
 use mathlib.Core.Path.{_≡_, refl, sym, ap, _∙_}
 use mathlib.Core.Bool.{Bool, true, false}
 use mathlib.Core.List.{List, [], _∷_, _++_, append-assoc}
-use Prim.Native.Nat.{ℕ, zero, suc, _+_, _-_, _*_, _<_, _≤_}
+use Prim.Native.Nat.{ℕ, zero, suc, _+_, _-_, _*_, _/_, _<_, _≤_}
 use native.Mathlib.Numerals.{add-one}
 use native.Mathlib.Omega.{arith}
 use lib.ListN.{length, take, drop, getD, set, length-append, length-drop, drop-of-length-le, take-append-drop}
@@ -12,40 +12,15 @@ use lib.Dec.{eqb, ltb}
 use borrow.Author.Tests.{ltb-true, ltb-false}
 use Rattle.runs.specs.Runs.{pick}
 use Rattle.sheet.specs.Forms.{key}
-use Rattle.sheet.specs.Lines.{lineAt, startsFrom, startsOf, sheetCheck, sheetLimit}
+use Rattle.sheet.specs.Limits.{sheetLimit, shortestLine, lineLimit, smallLimit}
+use Rattle.sheet.specs.Lines.{lineAt, startsFrom, startsOf, sheetCheck}
+use Rattle.sheet.specs.Steps.{valueEnd}
 use Rattle.sheet.specs.Replies.{Indexed}
 use Rattle.sheet.specs.declared.check.SheetCheck.the-variants.{Accepted}
-use Rattle.lookup.specs.Starts.{upto, shortestLine, lineLimit, Room}
-use Rattle.lookup.proofs.Forms.{form-length, line-end, line-long}
-use Rattle.lookup.proofs.Accepted.{GoesUp, accepted-short, accepted-up}
-
--- inside a line the next one begins behind the next 0A
-inside-line : (n : ℕ) (t : List ℕ) → startsFrom false n t ≡ startsFrom true (suc (n + upto 0x0A t)) (drop (suc (upto 0x0A t)) t)
-inside-line n [] = refl
-inside-line n (b ∷ t) = go (eqb b 0x0A) (inside-line (suc n) t)
-  where
-    go : (c : Bool) → startsFrom false (suc n) t ≡ startsFrom true (suc (suc n + upto 0x0A t)) (drop (suc (upto 0x0A t)) t) →
-        startsFrom c (suc n) t ≡
-        startsFrom true (suc (n + pick c zero (suc (upto 0x0A t)))) (drop (suc (pick c zero (suc (upto 0x0A t)))) (b ∷ t))
-    go true r = ap (λ (k : ℕ). startsFrom true k t) (omega arith)
-    go false r =
-        let z : suc (suc n + upto 0x0A t) ≡ suc (n + suc (upto 0x0A t)) = omega arith in
-        r ∙ ap (λ (k : ℕ). startsFrom true k (drop (suc (upto 0x0A t)) t)) z
-
--- the lines from the one that begins at byte `at` on; e is where that one ends
-pub next-start : (s : List ℕ) (at e : ℕ) → at < length s → e ≡ at + upto 0x0A (drop at s) →
-    startsFrom true at (drop at s) ≡ at ∷ startsFrom true (e + 1) (drop (e + 1) s)
-next-start s at e h p =
-    let u = upto 0x0A (drop at s) in
-    let a : suc (at + u) ≡ e + 1 = omega arith in
-    let b : at + suc u ≡ e + 1 = omega arith in
-    let head : startsFrom true at (drop at s) ≡ at ∷ startsFrom false at (drop at s) = rw (drop-cons s at 0) in
-    head ∙ ap (λ (l : List ℕ). at ∷ l) (inside-line at (drop at s)
-    ∙ ap (λ (k : ℕ). startsFrom true k (drop (suc u) (drop at s))) a
-    ∙ ap (λ (l : List ℕ). startsFrom true (e + 1) l) (drop-drop (suc u) at s ∙ ap (λ (k : ℕ). drop k s) b))
-
-pub no-lines : (s : List ℕ) (at : ℕ) → length s ≤ at → startsFrom true at (drop at s) ≡ []
-no-lines s at h = rw (drop-of-length-le s h)
+use Rattle.sheet.proofs.Forms.{line-fits, line-long}
+use Rattle.sheet.proofs.Lines.{no-lines, some-line, next-line}
+use Rattle.sheet.proofs.Accepted.{GoesUp, accepted-short, accepted-up}
+use Rattle.lookup.specs.Starts.{Room}
 
 -- the lines from byte `at` on take so many bytes; k is at least how many bytes there are
 few-from : (k : ℕ) (s : List ℕ) (at : ℕ) (last : List ℕ) → length s ≤ at + k → GoesUp s last (startsFrom true at (drop at s)) →
@@ -59,15 +34,14 @@ few-from (suc k) s at last h g = go (ltb at (length s)) refl (few-from k s)
         shortestLine * length (startsFrom true at (drop at s)) ≤ length s - at
     go false f rest = rw (no-lines s at (ltb-false _ _ f)) (omega arith)
     go true f rest =
-        let e = at + upto 0x0A (drop at s) in
-        let n = next-start s at e (ltb-true _ _ f) refl in
-        let g′ : GoesUp s last (at ∷ startsFrom true (e + 1) (drop (e + 1) s)) = rw n at g in
-        let r = rest (e + 1) (key (lineAt s at)) (omega arith) (g′ .2) in
-        let u = line-long (drop at s) (g′ .0) in
-        let v = line-end (drop at s) (g′ .0) in
-        let w = form-length (drop at s) (g′ .0) in
-        let x = length-drop at s in
-        rw n (omega arith)
+        let n = some-line s at (ltb-true _ _ f) in
+        let g′ : GoesUp s last (at ∷ startsFrom (eqb (getD s at 0) 0x0A) (suc at) (drop (suc at) s)) = rw n at g in
+        let e = valueEnd s at + 3 in
+        let m = next-line s at (g′ .0) in
+        let g″ : GoesUp s last (at ∷ startsFrom true e (drop e s)) = rw m at g in
+        let l = line-long s at (g′ .0) in
+        let r = rest e (key (lineAt s at)) (omega arith) (g″ .2) in
+        rw m (omega (arith, r, l, line-fits s at (g′ .0)))
 
 pub few-lines : (s : List ℕ) → sheetCheck s ≡ Accepted → length (startsOf s) ≤ lineLimit
 few-lines s h =
@@ -80,8 +54,8 @@ pub roomy : (s out : List ℕ) → lineLimit ≤ length out → Room s out
 unfolding Room
 roomy s out l = λ h. omega (arith, l, h)
 
--- a sheet of at most 4,096 bytes has at most 409 lines
-pub few-room : (s out : List ℕ) → length s ≤ 4096 → 409 ≤ length out → Room s out
+-- the same of a small sheet
+pub few-room : (s out : List ℕ) → length s ≤ smallLimit → smallLimit / shortestLine ≤ length out → Room s out
 unfolding Room
 few-room s out l n = λ h. omega (arith, l, n)
 

@@ -16,7 +16,7 @@ use Rattle.sheet.specs.Replies.{Reply, replyIn}
 use Rattle.lookup.specs.declared.search.Found.{Found}
 use Rattle.lookup.specs.declared.search.Found.the-variants.{At, Nothing}
 use Rattle.lookup.specs.Search.{placeIn, answerAt}
-use Rattle.lookup.proofs.Accepted.{GoesUp, up-above}
+use Rattle.sheet.proofs.Accepted.{GoesUp, up-above}
 
 module _ (s q : List ℕ) where
   -- a line that is not the question's is passed over, and the question's line is the answer

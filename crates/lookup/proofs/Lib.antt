@@ -1,6 +1,3 @@
-pub mod Upto
-pub mod Forms
-pub mod Accepted
 pub mod Count
 pub mod Halves
 pub mod Rounds

@@ -32,23 +32,86 @@ module _ (s before after : List ℕ) (c : Checked) (k : Stored s before after c)
     stored = k .stored;
   }
 
-module _ (w s before : List ℕ) where
-  pub word-refused : (y x : WordCheck) (r : Refusal) → y ≡ wordCheck w → y ≡ x → ((i : Inputs) → byWordThen x i ≡ inputs.Refused r) → CountedBy x s 0
-      → Prepared w s before before (record { inputs = inputs.Refused r; lines = 0 })
-  unfolding inputsOf
-  word-refused y x r e f g z = record {
-    said = sym (g (bySheet (sheetCheck s))) ∙ ap (λ (v : WordCheck). byWordThen v (bySheet (sheetCheck s))) (sym f ∙ e);
-    lines = subst (λ (v : WordCheck). CountedBy v s 0) (sym f ∙ e) z;
-    stored = refl;
-  }
+accepted-word : (y : WordCheck) → byWordThen y inputs.Accepted ≡ inputs.Accepted → y ≡ words.Accepted
+accepted-word words.Accepted k = refl
+accepted-word words.TooLong k = cc
+accepted-word words.NotUtf8 k = cc
+accepted-word words.Forbidden k = cc
 
-  pub word-accepted : (after : List ℕ) (y : WordCheck) (r : Ready) → y ≡ wordCheck w → y ≡ words.Accepted → SheetReady s before after r → Prepared w s before after r
+accepted-sheet : (y : SheetCheck) → bySheet y ≡ inputs.Accepted → y ≡ sheets.Accepted
+accepted-sheet sheets.Accepted k = refl
+accepted-sheet sheets.TooLong k = cc
+accepted-sheet (sheets.NoForm at) k = cc
+accepted-sheet (sheets.NotAbove at) k = cc
+
+-- what is said of the word with any accepted sheet, x
+module _ (w s before : List ℕ) (x : Inputs) (e : x ≡ byWordThen (wordCheck w) inputs.Accepted) where
+  pub word-refused : (r : Refusal) → x ≡ inputs.Refused r → Prepared w s before before (record { inputs = inputs.Refused r; lines = 0 })
   unfolding inputsOf
-  word-accepted after y r e f k = record {
-    said = k .said ∙ ap (λ (v : WordCheck). byWordThen v (bySheet (sheetCheck s))) (sym f ∙ e);
-    lines = subst (λ (v : WordCheck). CountedBy v s (r .lines)) (sym f ∙ e) (k .lines);
-    stored = k .stored;
-  }
+  word-refused r f = go (wordCheck w) refl (sym e ∙ f)
+    where
+      refused : (y : WordCheck) → wordCheck w ≡ y → inputs.Refused r ≡ byWordThen y (bySheet (sheetCheck s)) → CountedBy y s 0
+          → Prepared w s before before (record { inputs = inputs.Refused r; lines = 0 })
+      refused y q k z = record {
+        said = k ∙ ap (λ (v : WordCheck). byWordThen v (bySheet (sheetCheck s))) (sym q);
+        lines = subst (λ (v : WordCheck). CountedBy v s 0) (sym q) z;
+        stored = refl;
+      }
+
+      go : (y : WordCheck) → wordCheck w ≡ y → byWordThen y inputs.Accepted ≡ inputs.Refused r → Prepared w s before before (record { inputs = inputs.Refused r; lines = 0 })
+      go words.Accepted q k = let z : _≡_ {A = ℕ} 0 1 = cc in absurd (omega arith)
+      go words.TooLong q k = refused words.TooLong q (sym k) refl
+      go words.NotUtf8 q k = refused words.NotUtf8 q (sym k) refl
+      go words.Forbidden q k = refused words.Forbidden q (sym k) refl
+
+  pub word-accepted : (after : List ℕ) (r : Ready) → x ≡ inputs.Accepted → SheetReady s before after r → Prepared w s before after r
+  unfolding inputsOf
+  word-accepted after r f k =
+      let q : wordCheck w ≡ words.Accepted = accepted-word (wordCheck w) (sym e ∙ f) in
+      record {
+        said = k .said ∙ ap (λ (v : WordCheck). byWordThen v (bySheet (sheetCheck s))) (sym q);
+        lines = subst (λ (v : WordCheck). CountedBy v s (r .lines)) (sym q) (k .lines);
+        stored = k .stored;
+      }
+
+-- what refuses a word refuses it with every sheet, and an accepted word leaves it to the sheet; x is what is said of the word
+module _ (w : List ℕ) (i x : Inputs) (e : x ≡ byWordThen (wordCheck w) inputs.Accepted) where
+  pub refused-with : (r : Refusal) → x ≡ inputs.Refused r → inputs.Refused r ≡ byWordThen (wordCheck w) i
+  refused-with r f = go (wordCheck w) (sym e ∙ f)
+    where
+      go : (y : WordCheck) → byWordThen y inputs.Accepted ≡ inputs.Refused r → inputs.Refused r ≡ byWordThen y i
+      go words.Accepted k = let z : _≡_ {A = ℕ} 0 1 = cc in absurd (omega arith)
+      go words.TooLong k = sym k
+      go words.NotUtf8 k = sym k
+      go words.Forbidden k = sym k
+
+  pub accepted-with : x ≡ inputs.Accepted → i ≡ byWordThen (wordCheck w) i
+  accepted-with f = ap (λ (y : WordCheck). byWordThen y i) (sym (accepted-word (wordCheck w) (sym e ∙ f)))
+
+-- a word of which nothing is said against is accepted
+pub word-said : (w : List ℕ) (x : Inputs) → x ≡ byWordThen (wordCheck w) inputs.Accepted → x ≡ inputs.Accepted → wordCheck w ≡ words.Accepted
+word-said w x e f = accepted-word (wordCheck w) (sym e ∙ f)
+
+-- what is said of an accepted sheet with a word, and of a refused one
+module _ (w s : List ℕ) where
+  pub said-indexed : sheetCheck s ≡ sheets.Accepted → byWordThen (wordCheck w) inputs.Accepted ≡ inputsOf w s
+  unfolding inputsOf
+  said-indexed h = ap (λ (v : SheetCheck). byWordThen (wordCheck w) (bySheet v)) (sym h)
+
+  pub said-refused : (x : Inputs) (r q : Refusal) → x ≡ bySheet (sheetCheck s) → x ≡ inputs.Refused r → inputs.Refused q ≡ byWordThen (wordCheck w) (inputs.Refused r)
+      → inputs.Refused q ≡ inputsOf w s
+  unfolding inputsOf
+  said-refused x r q e f g = g ∙ ap (byWordThen (wordCheck w)) (sym f ∙ e)
+
+-- what the caller has of an accepted sheet: the stored starts stand for it in a search
+pub indexed : (s before after : List ℕ) (r : Ready) → SheetReady s before after r → r .inputs ≡ inputs.Accepted →
+    (r .lines ≤ length after) × Indexed s (take (r .lines) after)
+indexed s before after r k e =
+    let h : sheetCheck s ≡ sheets.Accepted = accepted-sheet (sheetCheck s) (sym (k .said) ∙ e) in
+    let n : r .lines ≡ length (startsOf s) = subst (λ (v : SheetCheck). Counted s v (r .lines)) h (k .lines) in
+    let t : take (r .lines) (startsOf s) ≡ startsOf s = take-all (r .lines) (startsOf s) (omega arith) in
+    let o : after ≡ startsOf s ++ drop (r .lines) before = k .stored ∙ ap (λ (l : List ℕ). l ++ drop (r .lines) before) t in
+    (omega (arith, ap length o, length-append (startsOf s) (drop (r .lines) before), n), filled s after before (r .lines) h n o)
 
 -- what the caller has of an accepted word and sheet: the stored starts stand for the sheet in a search
 pub ready : (w s before after : List ℕ) (r : Ready) → Prepared w s before after r → r .inputs ≡ inputs.Accepted →
@@ -56,7 +119,5 @@ pub ready : (w s before after : List ℕ) (r : Ready) → Prepared w s before af
 ready w s before after r k e =
     let a = accepted-each w s (sym (k .said) ∙ e) in
     let c : CountedBy words.Accepted s (r .lines) = subst (λ (v : WordCheck). CountedBy v s (r .lines)) (a .0) (k .lines) in
-    let n : r .lines ≡ length (startsOf s) = subst (λ (v : SheetCheck). Counted s v (r .lines)) (a .1) c in
-    let t : take (r .lines) (startsOf s) ≡ startsOf s = take-all (r .lines) (startsOf s) (omega arith) in
-    let o : after ≡ startsOf s ++ drop (r .lines) before = k .stored ∙ ap (λ (l : List ℕ). l ++ drop (r .lines) before) t in
-    (a .0, omega (arith, ap length o, length-append (startsOf s) (drop (r .lines) before), n), filled s after before (r .lines) (a .1) n o)
+    let i = indexed s before after r (record { said = e ∙ ap bySheet (sym (a .1)); lines = c; stored = k .stored }) e in
+    (a .0, i .0, i .1)

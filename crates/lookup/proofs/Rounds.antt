@@ -15,7 +15,7 @@ use Rattle.sheet.specs.Forms.{key}
 use Rattle.sheet.specs.Lines.{lineAt}
 use Rattle.lookup.specs.declared.search.Found.the-variants.{At, Nothing}
 use Rattle.lookup.specs.Search.{placeIn, judge, asked}
-use Rattle.lookup.proofs.Accepted.{GoesUp, up-drop, up-take}
+use Rattle.sheet.proofs.Accepted.{GoesUp, up-drop, up-take}
 use Rattle.lookup.proofs.Halves.{place-up, place-down, place-here}
 
 -- the first h of the elements from number lo on that come before number hi
@@ -82,7 +82,7 @@ module _ (s q : List ℕ) where
   asked-round zero places z h = absurd (omega arith)
   asked-round (suc k) places z h = let p : suc k - 1 ≡ k = omega arith in rw (ne-eqb _ _ h, p)
 
-  pub round : (starts : List ℕ) (left lo hi mid at : ℕ) (x o : Order) → 0 < left → lo < hi → hi ≤ length starts →
+  round : (starts : List ℕ) (left lo hi mid at : ℕ) (x o : Order) → 0 < left → lo < hi → hi ≤ length starts →
       mid ≡ lo + (hi - lo) / 2 → at ≡ getD starts mid 0 → x ≡ cmp (key (lineAt s at)) q → x ≡ o →
       asked left s (drop lo (take hi starts)) q ≡
       judge o (asked (left - 1) s (drop (mid + 1) (take hi starts)) q) (At at) (asked (left - 1) s (drop lo (take mid starts)) q)
@@ -103,3 +103,13 @@ module _ (s q : List ℕ) where
       ∙ ap (λ (y : Order). judge y (asked (left - 1) s (drop (suc (length es / 2)) es) q) (At (getD es (length es / 2) 0))
       (asked (left - 1) s (take (length es / 2) es) q)) f
       ∙ rw (w, up, down)
+
+  -- the same where the rounds are counted, of n at most
+  pub round-counted : (n : ℕ) (starts : List ℕ) (rounds lo hi mid at : ℕ) (x o : Order) → rounds < n → lo < hi → hi ≤ length starts →
+      mid ≡ lo + (hi - lo) / 2 → at ≡ getD starts mid 0 → x ≡ cmp (key (lineAt s at)) q → x ≡ o →
+      asked (n - rounds) s (drop lo (take hi starts)) q ≡
+      judge o (asked (n - (rounds + 1)) s (drop (mid + 1) (take hi starts)) q) (At at) (asked (n - (rounds + 1)) s (drop lo (take mid starts)) q)
+  round-counted n starts rounds lo hi mid at x o z l h m a e i =
+      let k : n - rounds - 1 ≡ n - (rounds + 1) = omega arith in
+      round starts (n - rounds) lo hi mid at x o (omega arith) l h m a e i
+      ∙ ap (λ (y : ℕ). judge o (asked y s (drop (mid + 1) (take hi starts)) q) (At at) (asked y s (drop lo (take mid starts)) q)) k

@@ -11,8 +11,9 @@ use Rattle.sheet.specs.Lines.{startsOf}
 use Rattle.sheet.specs.Replies.{reply, Indexed}
 use Rattle.lookup.specs.declared.search.Found.{Found}
 use Rattle.lookup.specs.declared.search.Found.the-variants.{At, Nothing}
-use Rattle.lookup.specs.Search.{asked, enoughRounds, placeIn, placeOf, answerAt, Placed, Sought}
-use Rattle.lookup.proofs.Accepted.{accepted-up, up-form, up-member}
+use Rattle.sheet.specs.Limits.{enoughRounds}
+use Rattle.lookup.specs.Search.{asked, placeIn, placeOf, answerAt, Placed, Sought}
+use Rattle.sheet.proofs.Accepted.{accepted-up, up-form, up-member}
 use Rattle.lookup.proofs.Halves.{place-replies, place-asks}
 use Rattle.lookup.proofs.Rounds.{enough, double}
 use Rattle.lookup.proofs.Count.{few-lines}

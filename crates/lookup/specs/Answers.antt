@@ -7,6 +7,7 @@ use lib.ListN.{length, take, drop}
 use Rattle.runs.specs.Runs.{pick, sameText}
 use Rattle.sheet.specs.Forms.{isForm}
 use Rattle.sheet.specs.Lines.{lineAt}
+use Rattle.sheet.specs.Steps.{nameEnd}
 use Rattle.sheet.specs.Replies.{Reply, unknown, told, reply}
 use Rattle.lookup.specs.declared.answers.Spot.{Spot}
 use Rattle.lookup.specs.declared.answers.SheetKind.{SheetKind}
@@ -22,24 +23,24 @@ textAt s r = pick (r .found) (told (take (r .len) (drop (r .at) s))) unknown
 abbrev pub noSpot : Spot
 noSpot = record { found = false; at = 0; len = 0 }
 
--- where the value stands in the line found, whose name has n bytes
-abbrev pub valueSpot : List ℕ → ℕ → Found → Spot
-valueSpot s n Nothing = noSpot
-valueSpot s n (At at) = record { found = true; at = at + 5 + n; len = length (lineAt s at .value) }
-
--- a form stands where a line was found, and its name has n bytes
-abbrev pub LineOf : List ℕ → ℕ → Found → Type 0
-LineOf s n Nothing = Unit {0}
-LineOf s n (At at) = (isForm (drop at s) ≡ true) × (length (lineAt s at .name) ≡ n)
+-- where the value stands in the line found
+abbrev pub valueSpot : List ℕ → Found → Spot
+valueSpot s Nothing = noSpot
+valueSpot s (At at) = record { found = true; at = nameEnd s at + 2; len = length (lineAt s at .value) }
 
 -- where the name stands in the line found
-abbrev pub nameSpot : ℕ → Found → Spot
-nameSpot n Nothing = noSpot
-nameSpot n (At at) = record { found = true; at = at + 3; len = n }
+abbrev pub nameSpot : List ℕ → Found → Spot
+nameSpot s Nothing = noSpot
+nameSpot s (At at) = record { found = true; at = at + 3; len = length (lineAt s at .name) }
+
+-- a form stands where a line was found
+abbrev pub FormAt : List ℕ → Found → Type 0
+FormAt s Nothing = Unit {0}
+FormAt s (At at) = isForm (drop at s) ≡ true
 
 -- the part that holds the value of the question's line: settled, read as the sheet replies, and inside the sheet
 pub record ValueOf (s : List ℕ) (letter : ℕ) (name : List ℕ) (r : Spot) : Type 0 where
-  pub settled : r ≡ valueSpot s (length name) (placeOf s letter name)
+  pub settled : r ≡ valueSpot s (placeOf s letter name)
   pub reads : textAt s r ≡ reply s letter name
   pub inside : r .at + r .len ≤ length s
 
@@ -50,7 +51,7 @@ named name (told v) = told name
 
 -- the part that holds the name of the question's line
 pub record NameOf (s : List ℕ) (letter : ℕ) (name : List ℕ) (r : Spot) : Type 0 where
-  pub settled : r ≡ nameSpot (length name) (placeOf s letter name)
+  pub settled : r ≡ nameSpot s (placeOf s letter name)
   pub reads : textAt s r ≡ named name (reply s letter name)
   pub inside : r .at + r .len ≤ length s
 

@@ -8,7 +8,7 @@ use Rattle.runs.specs.declared.Order.{Order}
 use Rattle.runs.specs.declared.Order.the-variants.{Less, Equal, Greater}
 use Rattle.sheet.specs.Forms.{key, keyOf}
 use Rattle.sheet.specs.Lines.{lineAt}
-use Rattle.lookup.specs.Search.{headed}
+use Rattle.sheet.specs.Keys.{headed}
 use Rattle.lookup.specs.declared.begins.Range.{Range}
 use Rattle.lookup.specs.declared.begins.Edge.{Edge}
 

@@ -4,21 +4,16 @@ use mathlib.Core.Path.{_≡_}
 use mathlib.Core.Bool.{true}
 use mathlib.Core.List.{List, [], _∷_, List·Memᴰ}
 use lib.ListN.{length, take, drop, getD}
-use lib.Dec.{eqb, ltb}
+use lib.Dec.{eqb}
 use Rattle.runs.specs.Runs.{pick, sameText, cmp}
 use Rattle.runs.specs.declared.Order.{Order}
 use Rattle.runs.specs.declared.Order.the-variants.{Less, Equal, Greater}
+use Rattle.sheet.specs.Limits.{enoughRounds}
 use Rattle.sheet.specs.Forms.{isForm, key, keyOf}
 use Rattle.sheet.specs.Lines.{startsOf, lineAt}
 use Rattle.sheet.specs.Replies.{Reply, unknown, told, reply}
 use Rattle.lookup.specs.declared.search.Found.{Found}
 use Rattle.lookup.specs.declared.search.Found.the-variants.{At, Nothing}
-
--- how name stands to all names that begin with head: equal if it is one of them
-abbrev pub headed : List ℕ → List ℕ → Order
-headed name [] = Equal
-headed [] (y ∷ head) = Less
-headed (x ∷ name) (y ∷ head) = pick (ltb x y) Less (pick (ltb y x) Greater (headed name head))
 
 -- the line with the key q among those that begin at the places given
 abbrev pub placeIn : List ℕ → List ℕ → List ℕ → Found
@@ -45,10 +40,6 @@ asked (suc k) s places q =
     (At (getD places (length places / 2) 0))
     (asked k s (take (length places / 2) places) q))
 
--- the rounds that are enough for every accepted sheet
-abbrev pub enoughRounds : ℕ
-enoughRounds = 13
-
 -- what the line found replies
 abbrev pub answerAt : List ℕ → Found → Reply
 answerAt s Nothing = unknown
@@ -64,7 +55,7 @@ abbrev pub Placed : List ℕ → ℕ → List ℕ → Found → Type 0
 Placed s letter name Nothing = Unit {0}
 Placed s letter name (At at) = Stands s letter name at
 
--- what a search gives: the question's line, found in so many rounds, which replies what the sheet does
+-- what a search gives: the question's line, as so many rounds find it, which replies what the sheet does
 pub record Sought (s : List ℕ) (letter : ℕ) (name : List ℕ) (r : Found) : Type 0 where
   pub settled : r ≡ placeOf s letter name
   pub counted : r ≡ asked enoughRounds s (startsOf s) (keyOf letter name)

@@ -6,17 +6,18 @@ ghost use Prim.Native.Nat.{_+_, _≤_};
 ghost use lib.ListN.{length};
 ghost use Rattle.sheet.specs.Replies.{Indexed, lettersTold, lettersFor};
 ghost use Rattle.lookup.specs.Begins.{Begun};
-ghost use Rattle.lookup.specs.Answers.{LineOf, valueSpot, textAt, ValueOf, NameOf, kindFor};
+ghost use Rattle.lookup.specs.Answers.{FormAt, valueSpot, textAt, ValueOf, NameOf, kindFor};
 use crate::begins::Range;
 use crate::begins::seek_in;
 use crate::search::Found;
 use crate::search::seek;
 use crate::starts::Start;
-use crate::starts::until;
 use runs::same;
 use sheet::letters::Letters;
 use sheet::letters::Tag;
 use sheet::letters::read_letters;
+use sheet::line::name_end;
+use sheet::line::value_end;
 
 // A part of the sheet: `len` bytes from byte `at` on, or none, which is 0 bytes at 0.
 pub struct Spot {
@@ -32,10 +33,10 @@ pub enum SheetKind {
     Comp,
 }
 
-// Where the value stands in the line that a search has found, whose name has `n` bytes.
-fn value_at(sheet: &[u8], line: Found, n: usize) -> Spot
-    requires { ⌜ LineOf (now sheet) n line ⌝ }
-    ensures { λ r. ⌜ (r ≡ valueSpot (now (sheet .entry)) n line) × (r .at + r .len ≤ length (now (sheet .entry))) ⌝ }
+// Where the value stands in the line that a search has found.
+fn value_at(sheet: &[u8], line: Found) -> Spot
+    requires { ⌜ FormAt (now sheet) line ⌝ }
+    ensures { λ r. ⌜ (r ≡ valueSpot (now (sheet .entry)) line) × (r .at + r .len ≤ length (now (sheet .entry))) ⌝ }
 {
     let Found::At(at) = line else {
         return Spot {
@@ -44,12 +45,14 @@ fn value_at(sheet: &[u8], line: Found, n: usize) -> Spot
             len: 0,
         };
     };
-    let from = at + 5 + n;
-    let end = until(sheet, from, b')');
+    let end = name_end(sheet, at);
+    let from = end + 2;
+    let to = value_end(sheet, at, end);
+    let len = to - from;
     Spot {
         found: true,
         at: from,
-        len: end - from,
+        len,
     }
 }
 
@@ -59,8 +62,9 @@ pub(crate) fn value_of(sheet: &[u8], starts: &[Start], letter: u8, p: &[u8], q: 
     requires { ⌜ Indexed (now sheet) (now starts) ⌝ }
     ensures { λ r. ⌜ ValueOf (now (sheet .entry)) letter (now (p .entry) ++ now (q .entry)) r ⌝ }
 {
-    let line = seek(sheet, starts, letter, p, q);
-    value_at(sheet, line, p.len() + q.len())
+    let search = seek(sheet, starts, letter, p, q);
+    let line = search.found;
+    value_at(sheet, line)
 }
 
 // Where the name that `p` and then `q` make stands in its own `w` line.
@@ -69,7 +73,8 @@ pub fn spot_of(sheet: &[u8], starts: &[Start], p: &[u8], q: &[u8]) -> Spot
     requires { ⌜ Indexed (now sheet) (now starts) ⌝ }
     ensures { λ r. ⌜ NameOf (now (sheet .entry)) 0x77 (now (p .entry) ++ now (q .entry)) r ⌝ }
 {
-    let line = seek(sheet, starts, b'w', p, q);
+    let search = seek(sheet, starts, b'w', p, q);
+    let line = search.found;
     let Found::At(at) = line else {
         return Spot {
             found: false,
@@ -77,10 +82,13 @@ pub fn spot_of(sheet: &[u8], starts: &[Start], p: &[u8], q: &[u8]) -> Spot
             len: 0,
         };
     };
+    let from = at + 3;
+    let end = name_end(sheet, at);
+    let len = end - from;
     Spot {
         found: true,
-        at: at + 3,
-        len: p.len() + q.len(),
+        at: from,
+        len,
     }
 }
 
@@ -148,5 +156,5 @@ pub fn letters_in(sheet: &[u8], starts: &[Start], range: Range, p: &[u8], q: &[u
     ensures { λ r. ⌜ r ≡ lettersFor (now (sheet .entry)) (now (p .entry) ++ now (q .entry)) ⌝ }
 {
     let line = seek_in(sheet, starts, range, b'w', p, q);
-    letters_at(sheet, value_at(sheet, line, p.len() + q.len()))
+    letters_at(sheet, value_at(sheet, line))
 }

@@ -1,21 +1,17 @@
 // The lines of a letter whose names begin alike. They stand together, so that two searches by halves find the first and the last of
 // them; a question whose name begins so is then sought among these alone, by what follows.
-ghost use mathlib.Core.Path.{_≡_};
-ghost use mathlib.Core.Bool.{true};
 ghost use mathlib.Core.List.{_++_};
 ghost use Prim.Native.Nat.{_≤_};
-ghost use lib.ListN.{length, drop};
-ghost use Rattle.sheet.specs.Forms.{isForm, key, keyOf};
-ghost use Rattle.sheet.specs.Lines.{lineAt};
+ghost use lib.ListN.{length};
 ghost use Rattle.sheet.specs.Replies.{Indexed};
-ghost use Rattle.lookup.specs.Search.{headed, Sought};
+ghost use Rattle.lookup.specs.Search.{Sought};
 ghost use Rattle.lookup.specs.Begins.{Begun, Edged, Ended};
 use crate::search::Found;
-use crate::search::along;
-use crate::search::name_order;
 use crate::search::wide;
 use crate::starts::Start;
 use runs::Order;
+use sheet::keys::head_order;
+use sheet::keys::order_behind;
 
 // Lines of a sheet by their numbers: from `lo` on, before `hi`.
 pub struct Range {
@@ -27,23 +23,6 @@ pub struct Range {
 pub(crate) struct Edge {
     pub lo: usize,
     pub top: usize,
-}
-
-// How the line that begins at `at` stands to all lines of the letter whose names begin with `head`: equal if it is one of them.
-// A form stands there.
-fn head_order(sheet: &[u8], at: usize, letter: u8, head: &[u8]) -> Order
-    requires { ⌜ isForm (drop at (now sheet)) ≡ true ⌝ }
-    ensures { λ r. ⌜ r ≡ headed (key (lineAt (now (sheet .entry)) at)) (keyOf letter (now (head .entry))) ⌝ }
-{
-    let first = sheet[at + 1];
-    if first < letter {
-        return Order::Less;
-    }
-    if letter < first {
-        return Order::Greater;
-    }
-    let from = at + 3;
-    along(&sheet[from..], head)
 }
 
 // The first line that does not stand below all lines that begin so, and the nearest line seen above them.
@@ -126,14 +105,12 @@ pub(crate) fn seek_in(
     requires { ⌜ Indexed (now sheet) (now starts) × Begun (now sheet) (now starts) letter (now p) range ⌝ }
     ensures { λ r. ⌜ Sought (now (sheet .entry)) letter (now (p .entry) ++ now (q .entry)) r ⌝ }
 {
-    let skip = 3 + p.len();
     let mut lo: usize = range.lo;
     let mut hi: usize = range.hi;
     while lo < hi {
         let mid = lo + (hi - lo) / 2;
         let at = wide(starts[mid]);
-        let from = at + skip;
-        let o = name_order(&sheet[from..], q);
+        let o = order_behind(sheet, at, letter, p, q);
         match o {
             Order::Less => {
                 lo = mid + 1;

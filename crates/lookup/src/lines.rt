@@ -1,15 +1,18 @@
 // The check of a word and a sheet for all that is asked of them: the sheet is read once, and the first byte of each line is stored on
 // the way.
 ghost use mathlib.Core.Path.{_≡_};
+ghost use Rattle.text.specs.Word.{wordCheck};
+ghost use Rattle.sheet.specs.Inputs.{byWordThen};
 ghost use Rattle.lookup.specs.Starts.{Room};
 ghost use Rattle.lookup.specs.Stored.{Stored, SheetReady, Prepared};
 use crate::starts::Start;
 use refusals::Refusal;
 use sheet::check::SheetCheck;
-use sheet::check::rises;
 use sheet::inputs::Inputs;
-use sheet::line::Cursor;
-use sheet::line::Line;
+use sheet::limits::SHEET_BYTES;
+use sheet::walk::Before;
+use sheet::walk::Reached;
+use sheet::walk::Walk;
 use text::word::WordCheck;
 use text::word::check_word;
 
@@ -31,56 +34,56 @@ pub fn check_lines(s: &[u8], out: &mut [Start]) -> Checked
     requires { ⌜ Room (now s) (now out) ⌝ }
     ensures { λ r. ⌜ Stored (now (s .entry)) (now (out .entry)) (now (out .exit)) r ⌝ }
 {
-    if 65536 < s.len() {
+    if SHEET_BYTES < s.len() {
         return Checked {
             said: SheetCheck::TooLong,
             lines: 0,
         };
     }
     let mut n: usize = 0;
-    let mut cursor = Cursor { at: 0 };
-    let mut from = 0;
-    let mut end = 0;
+    let mut walk = Walk {
+        at: 0,
+        last: Before::Nothing,
+    };
     loop {
-        let at = cursor.at;
-        let line = cursor.step(s);
+        let at = walk.at;
+        let line = walk.step(s);
         match line {
-            Line::End => {
+            Reached::End => {
                 return Checked {
                     said: SheetCheck::Accepted,
                     lines: n,
                 };
             }
-            Line::NoForm => {
+            Reached::NoForm => {
                 return Checked {
                     said: SheetCheck::NoForm(at),
                     lines: n,
                 };
             }
-            Line::Form {
-                name_end,
+            Reached::NotAbove => {
+                return Checked {
+                    said: SheetCheck::NotAbove(at),
+                    lines: n,
+                };
+            }
+            Reached::Form {
+                letter: _,
+                name_end: _,
                 value_end: _,
                 next,
             } => {
-                let first = at + 1;
-                if !rises(s, from, end, first, name_end) {
-                    return Checked {
-                        said: SheetCheck::NotAbove(at),
-                        lines: n,
-                    };
-                }
                 out[n] = at as Start;
                 n += 1;
-                from = first;
-                end = name_end;
-                cursor = next;
+                walk = next;
             }
         }
     }
 }
 
-// What is said of a sheet with a word that is accepted.
-fn sheet_ready(sheet: &[u8], out: &mut [Start]) -> Ready
+// The sheet's half of the check: what is said of a sheet with any word that is accepted. The first bytes of its lines are stored at the
+// front of `out`, as `check_lines` does it.
+pub fn prepare_sheet(sheet: &[u8], out: &mut [Start]) -> Ready
     requires { ⌜ Room (now sheet) (now out) ⌝ }
     ensures { λ r. ⌜ SheetReady (now (sheet .entry)) (now (out .entry)) (now (out .exit)) r ⌝ }
 {
@@ -107,26 +110,42 @@ fn sheet_ready(sheet: &[u8], out: &mut [Start]) -> Ready
     }
 }
 
+// The word's half of the check: what is said of a word with any sheet that is accepted.
+pub fn prepare_word(word: &[u8]) -> Inputs
+    ensures { λ r. ⌜ r ≡ byWordThen (wordCheck (now (word .entry))) Inputs.Accepted ⌝ }
+{
+    let said = check_word(word);
+    match said {
+        WordCheck::TooLong => Inputs::Refused(Refusal::WordTooLong),
+        WordCheck::NotUtf8 => Inputs::Refused(Refusal::WordNotUtf8),
+        WordCheck::Forbidden => Inputs::Refused(Refusal::WordForbidden),
+        WordCheck::Accepted => Inputs::Accepted,
+    }
+}
+
+// Why a word is refused together with a sheet that is refused: the word's reason, whose number is lower, else the sheet's.
+pub fn first_refusal(word: &[u8], sheet_refusal: Refusal) -> Refusal
+    ensures { λ r. ⌜ Inputs.Refused r ≡ byWordThen (wordCheck (now (word .entry))) (Inputs.Refused «sheet_refusal») ⌝ }
+{
+    let inputs = prepare_word(word);
+    match inputs {
+        Inputs::Refused(refusal) => refusal,
+        Inputs::Accepted => sheet_refusal,
+    }
+}
+
 // Whether word and sheet are accepted; of several reasons to refuse them, the one with the lowest number. The first bytes of the sheet's
 // lines are stored at the front of `out`, as `check_lines` does it; of a refused word nothing is stored.
 pub fn prepare(word: &[u8], sheet: &[u8], out: &mut [Start]) -> Ready
     requires { ⌜ Room (now sheet) (now out) ⌝ }
     ensures { λ r. ⌜ Prepared (now (word .entry)) (now (sheet .entry)) (now (out .entry)) (now (out .exit)) r ⌝ }
 {
-    let said = check_word(word);
-    match said {
-        WordCheck::TooLong => Ready {
-            inputs: Inputs::Refused(Refusal::WordTooLong),
+    let inputs = prepare_word(word);
+    match inputs {
+        Inputs::Refused(refusal) => Ready {
+            inputs: Inputs::Refused(refusal),
             lines: 0,
         },
-        WordCheck::NotUtf8 => Ready {
-            inputs: Inputs::Refused(Refusal::WordNotUtf8),
-            lines: 0,
-        },
-        WordCheck::Forbidden => Ready {
-            inputs: Inputs::Refused(Refusal::WordForbidden),
-            lines: 0,
-        },
-        WordCheck::Accepted => sheet_ready(sheet, out),
+        Inputs::Accepted => prepare_sheet(sheet, out),
     }
 }

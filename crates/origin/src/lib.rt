@@ -93,7 +93,7 @@ fn by_stem(sheet: &[u8], starts: &[Start], word: &[u8]) -> OriginDecision
 
 // The decision on a word by an accepted sheet: the table, which is asked for the whole word alone, then what the sheet says of the
 // word, of its remainders, and the marks. `starts` are the first bytes of the sheet's lines.
-pub fn classify_in(sheet: &[u8], starts: &[Start], word: &[u8]) -> OriginDecision
+pub fn decide_origin(word: &[u8], sheet: &[u8], starts: &[Start]) -> OriginDecision
     requires { ⌜ Indexed (now sheet) (now starts) ⌝ }
     ensures { λ r. ⌜ r ≡ decisionOf (reply (now (sheet .entry))) (now (word .entry)) ⌝ }
 {

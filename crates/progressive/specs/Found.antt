@@ -19,7 +19,7 @@ endsInRahek w = endsIn raheko w || endsIn raheki w || endsIn raheka w
 
 -- where the name stands in its `w` line
 abbrev pub nameAt : List ℕ → List ℕ → Spot
-nameAt s name = nameSpot (length name) (placeOf s 0x77 name)
+nameAt s name = nameSpot s (placeOf s 0x77 name)
 
 abbrev pub lemmaSpot : List ℕ → Lemma → Spot
 lemmaSpot s none = noSpot

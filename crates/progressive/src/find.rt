@@ -193,7 +193,7 @@ fn form_with(main_end: usize, negative: bool, lemma: Spot) -> Progressive
 }
 
 // The progressive form of the word, if it is one. The न is tried only where the search with it finds nothing.
-pub fn find_progressive(sheet: &[u8], starts: &[Start], word: &[u8]) -> Progressive
+pub fn find_progressive(word: &[u8], sheet: &[u8], starts: &[Start]) -> Progressive
     requires { ⌜ Indexed (now sheet) (now starts) ⌝ }
     ensures { λ r. ⌜ FormAt (now (sheet .entry)) (now (word .entry)) r ⌝ }
 {
@@ -229,6 +229,6 @@ pub fn has_supported_progressive_form(sheet: &[u8], starts: &[Start], piece: &[u
     requires { ⌜ Indexed (now sheet) (now starts) ⌝ }
     ensures { λ r. ⌜ r ≡ isProgressive (reply (now (sheet .entry))) (now (piece .entry)) ⌝ }
 {
-    let form = find_progressive(sheet, starts, piece);
+    let form = find_progressive(piece, sheet, starts);
     form.found
 }

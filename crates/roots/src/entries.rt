@@ -1,17 +1,27 @@
 // The entries of root candidates, which take any word and any sheet.
 use crate::RootCandidate;
 use crate::Roots;
+use crate::collect_candidates;
 use crate::list::first;
 use crate::list::is_some;
 use crate::list::nothing;
-use crate::lookup_root_candidates_in;
 use decomposition::Parts;
-use lookup::lines::prepare;
+use lookup::lines::first_refusal;
+use lookup::lines::prepare_sheet;
+use lookup::lines::prepare_word;
 use lookup::starts::Start;
 use refusals::Refusal;
 use sheet::inputs::Inputs;
+use sheet::limits::ALL_STARTS;
+use sheet::limits::FEW_STARTS;
+use sheet::limits::SMALL_BYTES;
 use tables::origins::Origin;
 ghost use mathlib.Core.Path.{_≡_};
+ghost use mathlib.Core.List.{[]};
+ghost use Prim.Native.Nat.{_≤_};
+ghost use Rattle.sheet.specs.Replies.{Indexed};
+ghost use Rattle.lookup.specs.Starts.{Room};
+ghost use Rattle.roots.specs.Lists.{rowsOf, rootLimit};
 ghost use Rattle.roots.specs.Answers.{RootsGiven, blank, bestAnswer, knownAnswer};
 
 // The answer of `lookup_root_candidates`: what is said of word and sheet, and the candidates where both are accepted.
@@ -33,24 +43,56 @@ pub enum KnownAnswer {
     Refused(Refusal),
 }
 
+// What is given for a word and a sheet of which one is refused. Free: the rows past the count.
+fn refused(refusal: Refusal) -> RootsAnswer
+    ensures { λ r. ⌜ (r .inputs ≡ Inputs.Refused refusal) × (rowsOf (r .roots) ≡ []) × (r .roots .count ≤ rootLimit) ⌝ }
+{
+    RootsAnswer {
+        inputs: Inputs::Refused(refusal),
+        roots: nothing(),
+    }
+}
+
+// The root candidates of the word by an accepted sheet, in rank order, or why the word is refused. `starts` are the first bytes of the
+// sheet's lines. Free: the rows past the count.
+pub fn lookup_root_candidates_in(word: &[u8], sheet: &[u8], starts: &[Start]) -> RootsAnswer
+    requires { ⌜ Indexed (now sheet) (now starts) ⌝ }
+    ensures { λ r. ⌜ RootsGiven (now (word .entry)) (now (sheet .entry)) r ⌝ }
+{
+    let inputs = prepare_word(word);
+    match inputs {
+        Inputs::Refused(refusal) => refused(refusal),
+        Inputs::Accepted => RootsAnswer {
+            inputs: Inputs::Accepted,
+            roots: collect_candidates(word, sheet, starts),
+        },
+    }
+}
+
+// The same by any sheet, with a list that has room for the starts of its lines.
+fn answered(word: &[u8], sheet: &[u8], starts: &mut [Start]) -> RootsAnswer
+    requires { ⌜ Room (now sheet) (now starts) ⌝ }
+    ensures { λ r. ⌜ RootsGiven (now (word .entry)) (now (sheet .entry)) r ⌝ }
+{
+    let ready = prepare_sheet(sheet, starts);
+    let lines = ready.lines;
+    let inputs = ready.inputs;
+    match inputs {
+        Inputs::Refused(refusal) => refused(first_refusal(word, refusal)),
+        Inputs::Accepted => lookup_root_candidates_in(word, sheet, &starts[..lines]),
+    }
+}
+
 // The root candidates of the word in rank order, or why word or sheet is refused. Free: the rows past the count.
 pub fn lookup_root_candidates(word: &[u8], sheet: &[u8]) -> RootsAnswer
     ensures { λ r. ⌜ RootsGiven (now (word .entry)) (now (sheet .entry)) r ⌝ }
 {
-    let mut starts: [Start; 6554] = [0; 6554];
-    let ready = prepare(word, sheet, &mut starts);
-    let lines = ready.lines;
-    let inputs = ready.inputs;
-    match inputs {
-        Inputs::Refused(refusal) => RootsAnswer {
-            inputs: Inputs::Refused(refusal),
-            roots: nothing(),
-        },
-        Inputs::Accepted => RootsAnswer {
-            inputs: Inputs::Accepted,
-            roots: lookup_root_candidates_in(sheet, &starts[..lines], word),
-        },
+    if sheet.len() <= SMALL_BYTES {
+        let mut few: [Start; FEW_STARTS] = [0; FEW_STARTS];
+        return answered(word, sheet, &mut few);
     }
+    let mut starts: [Start; ALL_STARTS] = [0; ALL_STARTS];
+    answered(word, sheet, &mut starts)
 }
 
 // An empty root without labels, which stands where there is no candidate.

@@ -82,7 +82,7 @@ fn collected(
 
 // The candidates of a word by an accepted sheet, in rank order; the tables are named here and lent down. `starts` are the
 // first bytes of the sheet's lines, and the word has at most 192 bytes. Free: the rows past the count.
-pub fn lookup_root_candidates_in(sheet: &[u8], starts: &[Start], word: &[u8]) -> Roots
+pub fn collect_candidates(word: &[u8], sheet: &[u8], starts: &[Start]) -> Roots
     requires { ⌜ Indexed (now sheet) (now starts) × (length (now word) ≤ 192) ⌝ }
     ensures { λ r. ⌜ (rowsOf r ≡ candidates (reply (now (sheet .entry))) (now (word .entry))) × (r .count ≤ rootLimit) ⌝ }
 {

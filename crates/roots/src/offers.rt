@@ -11,7 +11,7 @@ use decomposition::suffixes::label_row;
 use decomposition::suffixes::open_rests;
 use lookup::answers::letters_of;
 use lookup::starts::Start;
-use origin::classify_in;
+use origin::decide_origin;
 use sheet::letters::Letters;
 use strips::prefix::Rest;
 use strips::prefix::prefix_rest;
@@ -84,7 +84,7 @@ fn offer(
     if !is_known(letters) {
         return list;
     }
-    let decision = classify_in(sheet, starts, root);
+    let decision = decide_origin(root, sheet, starts);
     let origin = decision.origin;
     let candidate = RootCandidate {
         score: score(surface, letters, p.prefix_count, p.suffix_count),

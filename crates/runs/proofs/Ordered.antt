@@ -138,12 +138,7 @@ module _ (a b : List ℕ) (i : ℕ) where
   pub turn-ended : length a ≤ i → length b ≤ i → cmp (drop i a) (drop i b) ≡ Equal
   turn-ended p q = rw (drop-of-length-le a p, drop-of-length-le b q)
 
--- a question in two parts: a run too short for the first is decided by it, and what the first leaves open the second decides
-pub cmp-first : (a p q : List ℕ) → length a < length p → cmp a (p ++ q) ≡ cmp a p
-cmp-first a [] q h = let z : _≡_ {A = ℕ} 0 1 = omega arith in (cc)
-cmp-first [] (y ∷ p) q h = refl
-cmp-first (x ∷ a) (y ∷ p) q h = ap (λ (r : Order). step x y r) (cmp-first a p q (omega arith))
-
+-- a question in two parts: what the first leaves open the second decides
 abbrev pub andThen : Order → Order → Order
 andThen Less r = Less
 andThen Equal r = r
@@ -156,15 +151,3 @@ step-then x y r s = go (ltb x y) (ltb y x)
     go true c = refl
     go false true = refl
     go false false = refl
-
-pub cmp-parts : (a p q : List ℕ) → length p ≤ length a →
-    cmp a (p ++ q) ≡ andThen (cmp (take (length p) a) p) (cmp (drop (length p) a) q)
-cmp-parts a [] q h = refl
-cmp-parts [] (y ∷ p) q h = let z : _≡_ {A = ℕ} 0 1 = omega arith in (cc)
-cmp-parts (x ∷ a) (y ∷ p) q h = ap (λ (r : Order). step x y r) (cmp-parts a p q (omega arith)) ∙ step-then x y _ _
-
--- the same, where x is what was found of the first part
-pub parts-decided : (a p q : List ℕ) (x o : Order) → length p ≤ length a → x ≡ cmp (take (length p) a) p → x ≡ o →
-    andThen o (cmp (drop (length p) a) q) ≡ cmp a (p ++ q)
-parts-decided a p q x o h e f =
-    sym (cmp-parts a p q h ∙ ap (λ (y : Order). andThen y (cmp (drop (length p) a) q)) (sym e ∙ f))

@@ -26,6 +26,11 @@ cmp [] (y ∷ ys) = Less
 cmp (x ∷ xs) [] = Greater
 cmp (x ∷ xs) (y ∷ ys) = pick (ltb x y) Less (pick (ltb y x) Greater (cmp xs ys))
 
+abbrev pub isLess : Order → Bool
+isLess Less = true
+isLess Equal = false
+isLess Greater = false
+
 -- head stands at the front of s
 abbrev pub beginsWith : List ℕ → List ℕ → Bool
 beginsWith [] s = true

@@ -1,7 +1,6 @@
 // Runs of bytes compared in place: equal, in order, at the front, at the end.
 // Nothing is copied and nothing is joined. Every crate above compares texts by these alone.
 ghost use mathlib.Core.Path.{_≡_};
-ghost use mathlib.Core.List.{_++_};
 ghost use Rattle.runs.specs.Runs.{sameText, cmp, beginsWith, endsIn};
 
 // How a run of bytes stands to another, by exact bytes.
@@ -43,23 +42,6 @@ pub fn compare(a: &[u8], b: &[u8]) -> Order
         return Order::Less;
     }
     Order::Equal
-}
-
-// The order of a and the run that p and then q make, without making it.
-// It takes any three runs.
-pub fn compare_parts(a: &[u8], p: &[u8], q: &[u8]) -> Order
-    ensures { λ r. ⌜ r ≡ cmp (now (a .entry)) (now (p .entry) ++ now (q .entry)) ⌝ }
-{
-    let n = p.len();
-    if a.len() < n {
-        return compare(a, p);
-    }
-    let first = compare(&a[..n], p);
-    match first {
-        Order::Less => Order::Less,
-        Order::Equal => compare(&a[n..], q),
-        Order::Greater => Order::Greater,
-    }
 }
 
 // Whether head stands at the front of s. It takes any two runs, a head longer than s too.

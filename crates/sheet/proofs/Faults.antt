@@ -7,9 +7,10 @@ use mathlib.Core.List.{List, [], _∷_}
 use lib.ListN.{length, drop}
 use lib.Dec.{eqb, ltb}
 use borrow.Author.Tests.{ltb-false}
-use Rattle.runs.specs.Runs.{pick, cmp}
+use Rattle.runs.specs.Runs.{pick, cmp, isLess}
 use Rattle.sheet.specs.Forms.{isForm, key}
-use Rattle.sheet.specs.Lines.{lead, startsFrom, startsOf, lineAt, isLess, judged, sheetLimit, sheetCheck}
+use Rattle.sheet.specs.Limits.{sheetLimit}
+use Rattle.sheet.specs.Lines.{lead, startsFrom, startsOf, lineAt, judged, sheetCheck}
 use Rattle.sheet.specs.declared.check.SheetCheck.{SheetCheck}
 use Rattle.sheet.specs.declared.check.SheetCheck.the-variants.{Accepted, TooLong, NoForm, NotAbove}
 

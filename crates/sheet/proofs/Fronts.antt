@@ -14,6 +14,7 @@ use Rattle.text.specs.Utf8.{Owed, owes, run, whole, isUtf8, after}
 use Rattle.text.specs.Names.{forbidden, nameRun, holdsForbidden}
 use Rattle.text.specs.Utf8.{from-to, tail, within, opened, utf8Char}
 use Rattle.text.proofs.Ranges.{inside}
+use Rattle.sheet.specs.Limits.{nameLimit}
 use Rattle.sheet.specs.Forms.{front, isName}
 use Rattle.sheet.specs.Passing.{Three, Passed}
 use borrow.Author.Tests.{lt-leb, ne-eqb}
@@ -80,7 +81,7 @@ module _ (s : List ℕ) (i : ℕ) where
   -- the name that began at `from` has been read up to i, where it ends
   pub read-done : (from : ℕ) (o : Owed) → from ≤ i → nameRun (drop i s) ≡ 0 → i + nameRun (drop i s) ≡ from + nameRun (drop from s)
       → run (owes []) (front (drop from s)) ≡ run o (front (drop i s))
-      → (ltb 0 (i - from) && leb (i - from) 210 && whole o) ≡ isName (front (drop from s))
+      → (ltb 0 (i - from) && leb (i - from) nameLimit && whole o) ≡ isName (front (drop from s))
   unfolding isName isUtf8 run
   read-done from o f z n q =
       let l : length (front (drop from s)) ≡ i - from = front-length (drop from s) ∙ omega arith in

@@ -4,6 +4,11 @@ pub mod Fronts
 pub mod Shape
 pub mod Heads
 pub mod Stepped
+pub mod Forms
+pub mod Spaced
 pub mod Lines
+pub mod Walks
+pub mod Accepted
+pub mod Texts
 pub mod Faults
 pub mod Refusals

@@ -44,10 +44,10 @@ module _ (v : List ℕ) (w h r p e : ℕ)
   to-h : drop h v ≡ past 0x68 (past 0x77 v)
   to-h = ph ∙ ap (past 0x68) pw
 
-  to-r : drop r v ≡ past 0x76 (past 0x68 (past 0x77 v))
+  pub to-r : drop r v ≡ past 0x76 (past 0x68 (past 0x77 v))
   to-r = pr ∙ ap (past 0x76) to-h
 
-  to-p : drop p v ≡ past 0x70 (past 0x76 (past 0x68 (past 0x77 v)))
+  pub to-p : drop p v ≡ past 0x70 (past 0x76 (past 0x68 (past 0x77 v)))
   to-p = pp ∙ ap (past 0x70) to-r
 
   pub to-e : drop e v ≡ afterFlags v

@@ -66,9 +66,9 @@ module _ (s : List ℕ) (at : ℕ) where
         let m = name-end-is in
         omega arith
 
-    pub at-form : at < length s → isForm (drop at s) ≡ true → Form e f (record { at = f + 3 }) ≡ stepAt s at
+    pub at-form : (l : ℕ) → lineAt s at .letter ≡ l → at < length s → isForm (drop at s) ≡ true → Form l e f (record { at = f + 3 }) ≡ stepAt s at
     unfolding stepAt
-    at-form h q = rw (lt-leb _ _ h, q, sym value-end-is, sym name-end-is)
+    at-form l p h q = rw (lt-leb _ _ h, q, sym value-end-is, sym name-end-is, sym p)
 
   pub name-good : isName (front (drop (at + 3) s)) ≡ isName (lineAt s at .name)
   unfolding entryOf

@@ -10,6 +10,7 @@ use lib.Dec.{eqb, leb, ltb}
 use Rattle.runs.specs.Runs.{pick, sameText, beginsWith, endsIn}
 use Rattle.text.specs.Utf8.{isUtf8}
 use Rattle.text.specs.Names.{nameRun, holdsForbidden}
+use Rattle.sheet.specs.Limits.{nameLimit}
 use Rattle.sheet.specs.Letters.{isLetters}
 
 pub record Entry : Type 0 where
@@ -36,7 +37,7 @@ written e = 0x28 ∷ e .letter ∷ 0x20 ∷ e .name ++ (0x20 ∷ 0x28 ∷ e .val
 
 -- SUFFIX, LINK, INFINITIVE and NAME: 1 to 210 bytes of UTF-8 without bytes 00 to 20, 28, 29, 7F
 unfoldable pub isName : List ℕ → Bool
-isName s = ltb 0 (length s) && leb (length s) 210 && isUtf8 s && not (holdsForbidden s)
+isName s = ltb 0 (length s) && leb (length s) nameLimit && isUtf8 s && not (holdsForbidden s)
 
 -- `post` or `comp`
 unfoldable pub isKind : List ℕ → Bool

@@ -13,7 +13,8 @@ use Rattle.text.specs.Names.{holdsForbidden}
 use Rattle.text.specs.Word.{wordLimit, wordCheck}
 use Rattle.text.specs.declared.word.WordCheck.{WordCheck}
 use Rattle.text.specs.declared.word.WordCheck.the-variants as words
-use Rattle.sheet.specs.Lines.{startsOf, judged, sheetLimit, sheetCheck}
+use Rattle.sheet.specs.Limits.{sheetLimit}
+use Rattle.sheet.specs.Lines.{startsOf, judged, sheetCheck}
 use Rattle.sheet.specs.declared.check.SheetCheck.{SheetCheck}
 use Rattle.sheet.specs.declared.check.SheetCheck.the-variants as sheets
 use Rattle.sheet.specs.declared.inputs.Inputs.{Inputs}

@@ -55,11 +55,13 @@ wellKept l =
     && (l .head || not (l .verb || l .pronoun || l .spelled || isTagged (l .tag)))
     && (l .pronoun || not (l .spelled))
 
+-- nothing is left but a tag
+abbrev pub closes : List ℕ → Bool
+closes s = sameText (pick (isTagged (tagOf s)) (drop 1 s) s) []
+
 -- s is a good run of letters: nothing is left once each has been read in its order, and the needs are met
 unfoldable pub isLetters : List ℕ → Bool
-isLetters s =
-    sameText (pick (isTagged (tagOf (afterFlags s))) (drop 1 (afterFlags s)) (afterFlags s)) []
-    && wellKept (lettersOf s)
+isLetters s = closes (afterFlags s) && wellKept (lettersOf s)
 
 -- the letters of a string without a line: none
 abbrev pub noLetters : Letters

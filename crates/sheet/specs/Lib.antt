@@ -1,7 +1,10 @@
+pub mod Limits
 pub mod Letters
 pub mod Forms
 pub mod Passing
+pub mod Keys
 pub mod Lines
 pub mod Steps
+pub mod Walks
 pub mod Replies
 pub mod Inputs

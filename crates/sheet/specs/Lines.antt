@@ -3,13 +3,12 @@
 use Prim.Native.Nat.{ℕ, zero, suc}
 use mathlib.Core.Bool.{Bool, true, false, not}
 use mathlib.Core.Path.{_≡_}
-use mathlib.Core.List.{List, [], _∷_, map}
+use mathlib.Core.List.{List, [], _∷_, _++_, map}
 use lib.ListN.{length, drop}
 use lib.Dec.{eqb, ltb}
-use Rattle.runs.specs.Runs.{pick, cmp}
-use Rattle.runs.specs.declared.Order.{Order}
-use Rattle.runs.specs.declared.Order.the-variants.{Less, Equal, Greater}
-use Rattle.sheet.specs.Forms.{Entry, entryOf, isForm, key}
+use Rattle.runs.specs.Runs.{pick, cmp, isLess}
+use Rattle.sheet.specs.Limits.{sheetLimit}
+use Rattle.sheet.specs.Forms.{Entry, entryOf, written, isForm, key}
 use Rattle.sheet.specs.declared.check.SheetCheck.{SheetCheck}
 use Rattle.sheet.specs.declared.check.SheetCheck.the-variants.{Accepted, TooLong, NoForm, NotAbove}
 
@@ -35,10 +34,10 @@ lineAt s at = entryOf (drop at s)
 abbrev pub linesOf : List ℕ → List Entry
 linesOf s = map (lineAt s) (startsOf s)
 
-abbrev pub isLess : Order → Bool
-isLess Less = true
-isLess Equal = false
-isLess Greater = false
+-- the sheet that entries make, each written out
+abbrev pub sheetText : List Entry → List ℕ
+sheetText [] = []
+sheetText (e ∷ es) = written e ++ sheetText es
 
 -- the first faulty line among those that begin at the places given, after a line with the key `last`: no form, or a form not above
 unfoldable pub judged : List ℕ → List ℕ → List ℕ → SheetCheck
@@ -49,10 +48,6 @@ judged s last (at ∷ rest) =
     (judged s (key (lineAt s at)) rest)
     (NotAbove at))
     (NoForm at)
-
--- the most bytes that a sheet has
-abbrev pub sheetLimit : ℕ
-sheetLimit = 65536
 
 -- what is said of the sheet s; no key is below the empty one, so the first line is above what stands before it
 unfoldable pub sheetCheck : List ℕ → SheetCheck

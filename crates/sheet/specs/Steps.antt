@@ -29,9 +29,9 @@ nameEnd s at = at + 3 + length (lineAt s at .name)
 abbrev pub valueEnd : List ℕ → ℕ → ℕ
 valueEnd s at = nameEnd s at + 2 + length (lineAt s at .value)
 
--- the line at `at`: the end of the sheet, a form with its places and the next line's, or no form
+-- the line at `at`: the end of the sheet, a form with its letter and places and the next line's, or no form
 unfoldable pub stepAt : List ℕ → ℕ → Line
 stepAt s at =
     pick (leb (length s) at) End
-    (pick (isForm (drop at s)) (Form (nameEnd s at) (valueEnd s at) (record { at = valueEnd s at + 3 }))
+    (pick (isForm (drop at s)) (Form (lineAt s at .letter) (nameEnd s at) (valueEnd s at) (record { at = valueEnd s at + 3 }))
     NoForm)

@@ -3,7 +3,7 @@ ghost use mathlib.Core.Path.{_≡_};
 ghost use Prim.Native.Nat.{_+_, _≤_};
 ghost use lib.ListN.{length, drop};
 ghost use lib.Dec.{ltb};
-ghost use Rattle.sheet.specs.Letters.{has, past, afterFlags, tagOf, isTagged, lettersOf, wellKept, isLetters};
+ghost use Rattle.sheet.specs.Letters.{has, past, tagOf, isTagged, lettersOf, closes, isLetters};
 
 // The origin tag of a headword.
 pub enum Tag {
@@ -72,14 +72,9 @@ pub fn is_tagged(tag: Tag) -> bool
     }
 }
 
-// Letters, and the place after the last of them but the tag.
-struct LettersRead {
-    letters: Letters,
-    end: usize,
-}
-
-fn read_flags(v: &[u8]) -> LettersRead
-    ensures { λ r. ⌜ (r .letters ≡ lettersOf (now (v .entry))) × (drop (r .end) (now (v .entry)) ≡ afterFlags (now (v .entry))) × (r .end ≤ length (now (v .entry))) ⌝ }
+// The letters that v spells.
+pub fn read_letters(v: &[u8]) -> Letters
+    ensures { λ r. ⌜ r ≡ lettersOf (now (v .entry)) ⌝ }
 {
     let w = skip(v, 0, b'w');
     let h = skip(v, w, b'h');
@@ -87,69 +82,49 @@ fn read_flags(v: &[u8]) -> LettersRead
     let p = skip(v, r, b'p');
     let e = skip(v, p, b'e');
     let tag = tag_at(v, e);
-    LettersRead {
-        letters: Letters {
-            word: 0 < w,
-            head: w < h,
-            verb: h < r,
-            pronoun: r < p,
-            spelled: p < e,
-            tag,
-        },
-        end: e,
+    Letters {
+        word: 0 < w,
+        head: w < h,
+        verb: h < r,
+        pronoun: r < p,
+        spelled: p < e,
+        tag,
     }
 }
 
-// The letters that v spells.
-pub fn read_letters(v: &[u8]) -> Letters
-    ensures { λ r. ⌜ r ≡ lettersOf (now (v .entry)) ⌝ }
+// Whether nothing is left of v from i on but a tag.
+fn closes_at(v: &[u8], i: usize) -> bool
+    requires { ⌜ i ≤ length (now v) ⌝ }
+    ensures { λ r. ⌜ r ≡ closes (drop i (now (v .entry))) ⌝ }
 {
-    let read = read_flags(v);
-    read.letters
-}
-
-// Whether letters meet each other's needs: at least w or h; every other letter needs h, and e needs p.
-fn well_kept(l: Letters) -> bool
-    ensures { λ r. ⌜ r ≡ wellKept l ⌝ }
-{
-    if l.head {
-        if l.pronoun {
-            return true;
-        }
-        return !l.spelled;
-    }
-    if l.verb {
-        return false;
-    }
-    if l.pronoun {
-        return false;
-    }
-    if l.spelled {
-        return false;
-    }
-    let tag = l.tag;
+    let tag = tag_at(v, i);
     if is_tagged(tag) {
-        return false;
+        return v.len() - i <= 1;
     }
-    l.word
+    v.len() - i == 0
 }
 
-// Whether v is a good run of letters: each at most once and in its order, their needs met, nothing besides.
+// Whether v is a good run of letters: each at most once and in its order, their needs met, nothing besides. Without h, w stands alone;
+// without p there is no e.
 pub fn are_letters(v: &[u8]) -> bool
     ensures { λ r. ⌜ r ≡ isLetters (now (v .entry)) ⌝ }
 {
-    let read = read_flags(v);
-    let letters = read.letters;
-    let end = read.end;
-    let tag = letters.tag;
-    if is_tagged(tag) {
-        if 1 < v.len() - end {
+    let w = skip(v, 0, b'w');
+    let h = skip(v, w, b'h');
+    if h <= w {
+        if w == 0 {
             return false;
         }
-        return well_kept(letters);
+        return v.len() - w == 0;
     }
-    if end < v.len() {
+    let past_v = skip(v, h, b'v');
+    let past_p = skip(v, past_v, b'p');
+    let past_e = skip(v, past_p, b'e');
+    if past_v < past_p {
+        return closes_at(v, past_e);
+    }
+    if past_p < past_e {
         return false;
     }
-    well_kept(letters)
+    closes_at(v, past_e)
 }

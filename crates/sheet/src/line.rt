@@ -1,16 +1,19 @@
 // The reader of the sheet: from line to line, its place going in and coming back.
 use crate::letters::are_letters;
+use crate::name::is_name;
 use crate::name::read_name;
+use crate::name::run_end;
+use bytes::scan::find;
 use runs::begins_with;
 use runs::ends_with;
 use runs::same;
 ghost use mathlib.Core.Path.{_≡_};
-ghost use mathlib.Core.Bool.{_||_};
-ghost use Prim.Native.Nat.{_≤_};
-ghost use lib.ListN.{length};
+ghost use mathlib.Core.Bool.{true, false, _||_};
+ghost use lib.ListN.{drop};
 ghost use Rattle.runs.specs.Runs.{endsIn};
-ghost use Rattle.sheet.specs.Forms.{signI, letterI, syllableNu, isKind, isName, isMeant};
-ghost use Rattle.sheet.specs.Steps.{headOf, stepAt};
+ghost use Rattle.text.specs.Names.{holdsForbidden};
+ghost use Rattle.sheet.specs.Forms.{signI, letterI, syllableNu, isKind, isMeant, isForm};
+ghost use Rattle.sheet.specs.Steps.{headOf, nameEnd, valueEnd, stepAt};
 
 // The first letter of the form whose head stands at the front of t, 0 where none does.
 fn head_at(t: &[u8]) -> u8
@@ -48,9 +51,9 @@ fn is_link(name: &[u8]) -> bool
     ends_with(name, b"\xE0\xA4\x87")
 }
 
-// Whether the value is what the first letter asks for; `named` says whether the value is a name.
-fn is_meant(letter: u8, name: &[u8], value: &[u8], named: bool) -> bool
-    requires { ⌜ named ≡ isName (now value) ⌝ }
+// Whether the value, a run that holds no forbidden byte, is what the first letter asks for.
+fn is_meant(letter: u8, name: &[u8], value: &[u8]) -> bool
+    requires { ⌜ holdsForbidden (now value) ≡ false ⌝ }
     ensures { λ r. ⌜ r ≡ isMeant (record { letter = letter; name = now (name .entry); value = now (value .entry) }) ⌝ }
 {
     if letter == b'k' {
@@ -60,7 +63,7 @@ fn is_meant(letter: u8, name: &[u8], value: &[u8], named: bool) -> bool
         if !is_link(name) {
             return false;
         }
-        if !named {
+        if !is_name(value) {
             return false;
         }
         return ends_with(value, b"\xE0\xA4\xA8\xE0\xA5\x81");
@@ -71,15 +74,34 @@ fn is_meant(letter: u8, name: &[u8], value: &[u8], named: bool) -> bool
     false
 }
 
+// Where the first name of the line that begins at `at` ends. A form stands there.
+pub fn name_end(s: &[u8], at: usize) -> usize
+    requires { ⌜ isForm (drop at (now s)) ≡ true ⌝ }
+    ensures { λ r. ⌜ r ≡ nameEnd (now (s .entry)) at ⌝ }
+{
+    let name = at + 3;
+    find(s, name, s.len(), b' ')
+}
+
+// Where its value ends; the name ends at `end`.
+pub fn value_end(s: &[u8], at: usize, end: usize) -> usize
+    requires { ⌜ (isForm (drop at (now s)) ≡ true) × (end ≡ nameEnd (now s) at) ⌝ }
+    ensures { λ r. ⌜ r ≡ valueEnd (now (s .entry)) at ⌝ }
+{
+    let value = end + 2;
+    find(s, value, s.len(), b')')
+}
+
 // A place in the sheet at which a line begins.
 pub struct Cursor {
     pub at: usize,
 }
 
-// What stands at a cursor: a form, with the ends of its first name and of its value and the next line's cursor; a line that is no
-// form; or the sheet's end.
+// What stands at a cursor: a form, with its first letter (k, l or w), the ends of its first name and of its value and the next line's
+// cursor; a line that is no form; or the sheet's end.
 pub enum Line {
     Form {
+        letter: u8,
         name_end: usize,
         value_end: usize,
         next: Cursor,
@@ -111,23 +133,19 @@ impl Cursor {
             return Line::NoForm;
         }
         let value_from = name_end + 2;
-        let value = read_name(s, value_from);
-        let value_end = value.end;
+        let value_end = run_end(s, value_from);
         if !begins_with(&s[value_end..], b"))\n") {
             return Line::NoForm;
         }
-        if !is_meant(
-            letter,
-            &s[from..name_end],
-            &s[value_from..value_end],
-            value.good,
-        ) {
+        if !is_meant(letter, &s[from..name_end], &s[value_from..value_end]) {
             return Line::NoForm;
         }
+        let end = value_end + 3;
         Line::Form {
+            letter,
             name_end,
             value_end,
-            next: Cursor { at: value_end + 3 },
+            next: Cursor { at: end },
         }
     }
 }

@@ -1,16 +1,19 @@
 // Names of the sheet: SUFFIX, LINK, INFINITIVE and NAME of document 01.
+use crate::limits::NAME_BYTES;
 use text::names::is_forbidden;
 use text::utf8::State;
+use text::utf8::is_utf8;
 use text::utf8::is_whole;
 use text::utf8::next;
 ghost use mathlib.Core.Path.{_≡_};
 ghost use Prim.Native.Nat.{_+_, _≤_};
 ghost use lib.ListN.{length, drop};
-ghost use mathlib.Core.Bool.{true, _&&_};
+ghost use mathlib.Core.Bool.{true, false, _&&_};
 ghost use lib.Dec.{ltb, leb};
 ghost use Rattle.text.specs.Utf8.{whole};
 ghost use Rattle.text.specs.Owes.{owedOf};
-ghost use Rattle.text.specs.Names.{nameRun};
+ghost use Rattle.text.specs.Names.{nameRun, holdsForbidden};
+ghost use Rattle.sheet.specs.Limits.{nameLimit};
 ghost use Rattle.sheet.specs.Forms.{front, isName};
 ghost use Rattle.sheet.specs.Passing.{Three, Passed};
 
@@ -22,15 +25,44 @@ pub struct NameRead {
 
 // Whether so many bytes, read up to this state, are a name: 1 to 210 of them, whole UTF-8.
 fn named(len: usize, state: State) -> bool
-    ensures { λ r. ⌜ r ≡ (ltb 0 len && leb len 210 && whole (owedOf state)) ⌝ }
+    ensures { λ r. ⌜ r ≡ (ltb 0 len && leb len nameLimit && whole (owedOf state)) ⌝ }
 {
     if len == 0 {
         return false;
     }
-    if 210 < len {
+    if NAME_BYTES < len {
         return false;
     }
     is_whole(state)
+}
+
+// Whether a run that holds no forbidden byte is a name.
+pub(crate) fn is_name(run: &[u8]) -> bool
+    requires { ⌜ holdsForbidden (now run) ≡ false ⌝ }
+    ensures { λ r. ⌜ r ≡ isName (now (run .entry)) ⌝ }
+{
+    if run.len() == 0 {
+        return false;
+    }
+    if NAME_BYTES < run.len() {
+        return false;
+    }
+    is_utf8(run)
+}
+
+// Where the run of bytes that a name may hold, from `from` on, ends.
+pub(crate) fn run_end(s: &[u8], from: usize) -> usize
+    requires { ⌜ from ≤ length (now s) ⌝ }
+    ensures { λ r. ⌜ (r ≡ from + nameRun (drop from (now (s .entry)))) × (r ≤ length (now (s .entry))) ⌝ }
+{
+    let mut i = from;
+    while i < s.len() {
+        if is_forbidden(s[i]) {
+            return i;
+        }
+        i += 1;
+    }
+    i
 }
 
 // Whether a character of three bytes whose first is E0 stands at i, as every letter of Devanagari does.

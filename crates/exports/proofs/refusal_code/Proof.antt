@@ -4,7 +4,7 @@ use native.Mathlib.Omega.{arith}
 use borrow.Author.Needs.{needs}
 use mathlib.Core.Path.{sym, ap, _∙_}
 use Rattle.refusals.specs.Refusals.{numbersTold}
-use Rattle.sheet.specs.Lines.{sheetLimit}
+use Rattle.sheet.specs.Limits.{sheetLimit}
 use Rattle.exports.specs.Codes.{coded}
 use Rattle.exports.proofs.Bounds.{number-placed}
 use Rattle.exports.proofs.refusal_code.Statement.{statement}

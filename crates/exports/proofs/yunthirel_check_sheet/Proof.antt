@@ -2,7 +2,7 @@
 use Prim.Native.Nat.{_<_}
 use borrow.Author.Needs.{needs}
 use mathlib.Core.Path.{sym, ap, subst, _∙_}
-use Rattle.sheet.specs.Lines.{sheetLimit}
+use Rattle.sheet.specs.Limits.{sheetLimit}
 use Rattle.sheet.proofs.Faults.{Inside, fault-inside}
 use Rattle.exports.specs.Codes.{sheetCode}
 use Rattle.exports.proofs.yunthirel_check_sheet.Statement.{statement}

@@ -1,7 +1,6 @@
 -- `answers::letters_in` meets its contract: the letters that the value spells. Assumes nothing.
-use mathlib.Core.Path.{sym, ap, _∙_}
+use mathlib.Core.Path.{ap, _∙_}
 use mathlib.Core.List.{_++_}
-use lib.ListN.{length, length-append}
 use borrow.Author.Needs.{needs}
 use Rattle.sheet.specs.Replies.{lettersTold, lettersFor}
 use Rattle.lookup.proofs.Parts as parts
@@ -11,13 +10,8 @@ use Rattle.lookup.proofs.answers.letters_in.Tie as tie
 seek-in-requires : tie.Need-seek-in-requires
 seek-in-requires c κs = search needs
 
-add-value-at : tie.Need-add-value-at
-add-value-at c = search needs
-
 value-at-requires : tie.Need-value-at-requires
-value-at-requires c κs =
-    let a = c .before .before .before .before .before .args in
-    parts.line-of (a .sheet .now) 0x77 (a .p .now ++ a .q .now) _ (c .seek-in .result) (sym (length-append (a .p .now) (a .q .now))) (c .seek-in .ensures)
+value-at-requires c κs = parts.form-at _ _ _ (c .seek-in .result) (c .seek-in .ensures)
 
 letters-at-requires : tie.Need-letters-at-requires
 letters-at-requires c κs = c .value-at .ensures .1
@@ -28,10 +22,8 @@ returns c =
     let v = c .before in
     let s = v .before in
     let a = s .before .before .before .before .before .args in
-    let k = parts.value-of (a .sheet .now) 0x77 (a .p .now ++ a .q .now) _ (s .seek-in .result) _ (sym (length-append (a .p .now) (a .q .now))) (s .seek-in .ensures) (v .value-at .ensures .0) (v .value-at .ensures .1) in
+    let k = parts.value-of (a .sheet .now) 0x77 (a .p .now ++ a .q .now) (s .seek-in .result) _ (s .seek-in .ensures) (v .value-at .ensures .0) (v .value-at .ensures .1) in
     c .letters-at .ensures ∙ ap lettersTold (k .reads)
 
 pub letters-in-spec : {M : Type 1} → statement M
-letters-in-spec =
-    tie.close
-    (tie.spec seek-in-requires add-value-at value-at-requires letters-at-requires returns)
+letters-in-spec = tie.close (tie.spec seek-in-requires value-at-requires letters-at-requires returns)

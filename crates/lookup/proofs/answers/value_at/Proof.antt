@@ -1,13 +1,14 @@
--- `answers::value_at` meets its contract: behind the name of the line found stand a space and a parenthesis, then the value.
--- Assumes nothing.
-use mathlib.Core.Path.{_≡_, refl, sym, ap, _∙_}
+-- `answers::value_at` meets its contract: the value stands between the line's own ends. Assumes nothing.
+use mathlib.Core.Path.{_≡_, sym, ap, subst, _∙_}
 use Prim.Native.Nat.{ℕ, _+_, _≤_}
 use native.Mathlib.Omega.{arith}
 use lib.ListN.{length}
 use borrow.Author.Needs.{needs}
-use Rattle.lookup.specs.Answers.{LineOf, valueSpot}
+use Rattle.sheet.specs.Steps.{valueEnd}
+use Rattle.sheet.proofs.Forms.{line-fits}
+use Rattle.lookup.specs.Answers.{FormAt, valueSpot}
 use Rattle.lookup.specs.declared.search.Found.the-variants.{At}
-use Rattle.lookup.proofs.Parts.{value-room, value-spot}
+use Rattle.lookup.proofs.Parts.{value-spot}
 use Rattle.lookup.proofs.answers.value_at.Statement.{statement}
 use Rattle.lookup.proofs.answers.value_at.Tie as tie
 
@@ -20,47 +21,37 @@ enum-told c = search needs
 returns : tie.Need-returns
 returns c =
     let b = c .before .before .before in
-    (ap (valueSpot (b .args .sheet .now) (b .args .n)) (sym (c .enum-told .given .1)), omega arith)
+    (ap (valueSpot (b .args .sheet .now)) (sym (c .enum-told .given .1)), omega arith)
 
 -- the line found
-line : (c : tie.After-known-told) → let a = c .before .before .before .before .args in LineOf (a .sheet .now) (a .n) (At (c .before .line .given .0 .0))
-line c = let b = c .before .before .before .before in rw (c .before .line .given .1) at (b .pre)
+line : (c : tie.After-known-told) → let a = c .before .before .before .before .args in FormAt (a .sheet .now) (At (c .before .line .given .0 .0))
+line c = let b = c .before .before .before .before in subst (FormAt (b .args .sheet .now)) (c .before .line .given .1) (b .pre)
 
-room : (c : tie.After-known-told) → let a = c .before .before .before .before .args in c .before .line .given .0 .0 + (a .n + 8) ≤ length (a .sheet .now)
-room c =
-    let a = c .before .before .before .before .args in
-    omega (arith, value-room (a .sheet .now) (a .n) (c .before .line .given .0 .0) (line c))
+room : (c : tie.After-known-told) → let a = c .before .before .before .before .args in valueEnd (a .sheet .now) (c .before .line .given .0 .0) + 3 ≤ length (a .sheet .now)
+room c = let a = c .before .before .before .before .args in line-fits (a .sheet .now) (c .before .line .given .0 .0) (line c)
+
+name-end-requires : tie.Need-name-end-requires
+name-end-requires c κs = line c
 
 add-from : tie.Need-add-from
-add-from c = omega (arith, room c)
+add-from c = omega (arith, room (c .before), c .name-end .ensures)
 
-add-from-2 : tie.Need-add-from-2
-add-from-2 c = omega (arith, room c)
+value-end-requires : tie.Need-value-end-requires
+value-end-requires c κs = (line (c .before), c .name-end .ensures)
 
-until-requires : tie.Need-until-requires
-until-requires c κs = omega (arith, room c)
-
-sub-t7 : tie.Need-sub-t7
-sub-t7 c = search needs
+sub-len : tie.Need-sub-len
+sub-len c = omega (arith, c .before .name-end .ensures, c .value-end .ensures)
 
 returns-2 : tie.Need-returns-2
 returns-2 c =
-    let k = c .before in
+    let n = c .before in
+    let k = n .before in
     let b = k .before .before .before .before in (
-      value-spot (b .args .sheet .now) (b .args .n) (k .before .line .given .0 .0) (line k) _ (c .until .result) refl (c .until .ensures .0)
-          ∙ ap (valueSpot (b .args .sheet .now) (b .args .n)) (sym (k .before .line .given .1)),
-      omega (arith, c .until .ensures),
+      value-spot (b .args .sheet .now) (k .before .line .given .0 .0) (n .name-end .result) (n .name-end .ensures) (c .value-end .result) (c .value-end .ensures)
+          ∙ ap (valueSpot (b .args .sheet .now)) (sym (k .before .line .given .1)),
+      omega (arith, room k, n .name-end .ensures, c .value-end .ensures),
     )
 
 pub value-at-spec : {M : Type 1} → statement M
 value-at-spec =
-    tie.close
-    (tie.spec
-    enum-known-line
-    enum-told
-    returns
-    add-from
-    add-from-2
-    until-requires
-    sub-t7
-    returns-2)
+    tie.close (tie.spec enum-known-line enum-told returns name-end-requires add-from value-end-requires sub-len returns-2)

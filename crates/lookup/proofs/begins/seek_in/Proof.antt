@@ -5,32 +5,28 @@ use mathlib.Core.Bool.{true}
 use mathlib.Core.List.{List, _++_}
 use Prim.Native.Nat.{ℕ, _+_, _-_, _/_, _≤_, _<_}
 use native.Mathlib.Omega.{arith}
-use lib.ListN.{length, take, drop, getD, length-drop}
-use lib.Seq.{take-all}
+use lib.ListN.{length, take, drop, getD}
 use borrow.Author.Needs.{needs}
-use Rattle.runs.specs.Runs.{cmp}
 use Rattle.runs.specs.declared.Order.{Order}
 use Rattle.runs.specs.declared.Order.the-variants.{Less, Equal, Greater}
-use Rattle.sheet.specs.Forms.{isForm, keyOf}
+use Rattle.sheet.specs.Forms.{isForm, key, keyOf}
+use Rattle.sheet.specs.Keys.{headed}
+use Rattle.sheet.specs.Lines.{lineAt}
 use Rattle.lookup.specs.Search.{placeIn, judge}
-use Rattle.lookup.specs.Starts.{spaced}
 use Rattle.lookup.specs.declared.search.Found.the-variants.{At}
 use Rattle.lookup.specs.Begins.{Begun}
-use Rattle.lookup.proofs.Begun.{among, head-room, among-round, among-none}
+use Rattle.lookup.proofs.Begun.{among, begun-at, among-round, among-none}
 use Rattle.lookup.proofs.Settled.{indexed-form, sought-placed}
 use Rattle.lookup.proofs.begins.seek_in.Statement.{statement}
 use Rattle.lookup.proofs.begins.seek_in.Tie as tie
 
 abbrev Inv-loop : tie.InvT-loop
-Inv-loop sheet starts letter p q skip lo₀ hi₀ lo hi =
+Inv-loop sheet starts letter p q lo₀ hi₀ lo hi =
     (lo₀ ≤ lo) × (lo ≤ hi) × (hi ≤ hi₀)
     × (placeIn sheet starts (keyOf letter (p ++ q)) ≡ placeIn sheet (drop lo (take hi starts)) (keyOf letter (p ++ q)))
 
 abbrev μ-loop : tie.MeasureT-loop
-μ-loop sheet starts letter p q skip lo₀ hi₀ lo hi = hi - lo
-
-add-skip : tie.Need-add-skip Inv-loop μ-loop
-add-skip c = omega arith
+μ-loop sheet starts letter p q lo₀ hi₀ lo hi = hi - lo
 
 loop-holds : tie.Need-loop-holds Inv-loop μ-loop
 loop-holds c = let a = c .before .before .before .before in (omega arith, a .pre .1 .ordered, omega arith, among (a .args .sheet .now) (a .args .letter) (a .args .p .now) (a .args .starts .now) (a .pre .0) (a .args .range) (a .pre .1) (a .args .q .now))
@@ -53,12 +49,14 @@ form c =
     ap (λ (x : ℕ). isForm (drop x (a .args .sheet .now))) (c .wide .ensures)
     ∙ indexed-form (a .args .sheet .now) (a .args .starts .now) (middle c) (a .pre .0) (omega (arith, c .before .before .loop-test .taken, v .2, a .pre .1 .inside))
 
-room : (c : tie.After-wide Inv-loop μ-loop) → let a = start (loop-of c) .args in c .wide .result + (3 + length (a .p .now)) ≤ length (a .sheet .now)
-room c =
+-- which begins so
+begun : (c : tie.After-wide Inv-loop μ-loop) → let a = start (loop-of c) .args in
+    headed (key (lineAt (a .sheet .now) (c .wide .result))) (keyOf (a .letter) (a .p .now)) ≡ Equal
+begun c =
     let a = start (loop-of c) in
     let v = loop-of c .loop .inv in
-    head-room (a .args .sheet .now) (a .args .letter) (a .args .p .now) (a .args .starts .now) (a .pre .0) (a .args .range) (a .pre .1) (a .args .q .now)
-    (middle c) (c .wide .result) (omega (arith, v .0)) (omega (arith, c .before .before .loop-test .taken, v .2)) (c .wide .ensures) (form c)
+    begun-at (a .args .sheet .now) (a .args .letter) (a .args .p .now) (a .args .starts .now) (a .pre .0) (a .args .range) (a .pre .1) (a .args .q .now)
+    (middle c) (c .wide .result) (omega (arith, v .0)) (omega (arith, c .before .before .loop-test .taken, v .2)) (c .wide .ensures)
 
 sub-mid : tie.Need-sub-mid Inv-loop μ-loop
 sub-mid c = omega arith
@@ -75,25 +73,13 @@ shared-slice-read-wide c = let a = start (c .before .before) in omega (arith, a 
 wide-requires : tie.Need-wide-requires Inv-loop μ-loop
 wide-requires c κs = search needs
 
-add-from : tie.Need-add-from Inv-loop μ-loop
-add-from c = omega (arith, room c)
-
-sub-name-order : tie.Need-sub-name-order Inv-loop μ-loop
-sub-name-order c = omega (arith, room c)
-
-part-name-order-start : tie.Need-part-name-order-start Inv-loop μ-loop
-part-name-order-start c = omega (arith, room c)
-
-part-name-order-end : tie.Need-part-name-order-end Inv-loop μ-loop
-part-name-order-end c = search needs
-
-name-order-requires : tie.Need-name-order-requires Inv-loop μ-loop
-name-order-requires c κs = search needs
+order-behind-requires : tie.Need-order-behind-requires Inv-loop μ-loop
+order-behind-requires c κs = (form c, begun c)
 
 -- one round
-module _ (c : tie.After-name-order Inv-loop μ-loop) (o : Order) (e : c .name-order .result ≡ o) where
+module _ (c : tie.After-order-behind Inv-loop μ-loop) (o : Order) (e : c .order-behind .result ≡ o) where
   abbrev at-wide : tie.After-wide Inv-loop μ-loop
-  at-wide = c .before .before
+  at-wide = c .before
 
   round-told : let a = start (loop-of at-wide) .args in let l = loop-of at-wide .loop in let k = keyOf (a .letter) (a .p .now ++ a .q .now) in
       placeIn (a .sheet .now) (a .starts .now) k ≡
@@ -103,13 +89,10 @@ module _ (c : tie.After-name-order Inv-loop μ-loop) (o : Order) (e : c .name-or
       let a = b .args in
       let l = loop-of at-wide .loop in
       let t = at-wide .before .before .loop-test .taken in
-      let n = at-wide .wide .result + (3 + length (a .p .now)) in
-      let h : length (drop n (a .sheet .now)) ≤ length (a .sheet .now) - n = simp length-drop (omega arith) in
       l .inv .3
       ∙ among-round (a .sheet .now) (a .letter) (a .p .now) (a .starts .now) (b .pre .0) (a .range) (b .pre .1) (a .q .now)
-      (l .lo) (l .hi) (middle at-wide) (at-wide .wide .result) (c .name-order .result) o (l .inv .0) (omega arith) (omega (arith, t)) (l .inv .2)
-      (at-wide .wide .ensures) (form at-wide)
-      (c .name-order .ensures ∙ ap (λ (m : List ℕ). cmp (spaced m) (a .q .now)) (take-all _ _ h)) e
+      (l .lo) (l .hi) (middle at-wide) (at-wide .wide .result) (c .order-behind .result) o (l .inv .0) (omega arith) (omega (arith, t)) (l .inv .2)
+      (at-wide .wide .ensures) (c .order-behind .ensures) e
 
 enum-told : tie.Need-enum-told Inv-loop μ-loop
 enum-told c = search needs
@@ -132,7 +115,7 @@ enum-told-2 c = search needs
 returns : tie.Need-returns Inv-loop μ-loop
 returns c =
     let n = c .before .before in
-    let b = start (loop-of (n .before .before)) in
+    let b = start (loop-of (n .before)) in
     sought-placed (b .args .sheet .now) (b .args .starts .now) (b .args .letter) (b .args .p .now ++ b .args .q .now) _ (b .pre .0) (sym (round-told n Equal (c .enum-told2 .given .1)))
 
 enum-told-3 : tie.Need-enum-told-3 Inv-loop μ-loop
@@ -160,18 +143,13 @@ seek-in-spec =
     (tie.spec
     Inv-loop
     μ-loop
-    add-skip
     loop-holds
     sub-mid
     add-mid
     mul-wide
     shared-slice-read-wide
     wide-requires
-    add-from
-    sub-name-order
-    part-name-order-start
-    part-name-order-end
-    name-order-requires
+    order-behind-requires
     enum-told
     add-lo
     loop-less

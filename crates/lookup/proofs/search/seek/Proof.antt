@@ -2,31 +2,33 @@
 -- answers as asking all lines does. Assumes nothing.
 use mathlib.Core.Path.{_≡_, refl, sym, ap, _∙_}
 use mathlib.Core.List.{List, _++_}
-use Prim.Native.Nat.{ℕ, _≤_}
+use Prim.Native.Nat.{ℕ, _-_, _≤_}
 use native.Mathlib.Omega.{arith}
 use lib.ListN.{length, take, drop, length-drop, length-take}
 use lib.Seq.{take-length}
 use borrow.Author.Needs.{needs}
 use Rattle.sheet.specs.Forms.{isForm, keyOf}
-use Rattle.lookup.specs.Search.{asked, enoughRounds}
-use Rattle.lookup.proofs.Rounds.{asked-none, asked-spent, round}
+use Rattle.sheet.specs.Limits.{enoughRounds}
+use Rattle.lookup.specs.Search.{asked}
+use Rattle.lookup.proofs.Rounds.{asked-none, asked-spent, round-counted}
 use Rattle.lookup.proofs.Settled.{indexed-form, sought}
 use Rattle.lookup.proofs.search.seek.Statement.{statement}
 use Rattle.lookup.proofs.search.seek.Tie as tie
 
 abbrev Inv-loop : tie.InvT-loop
-Inv-loop sheet starts letter p q left₀ lo₀ hi₀ left lo hi =
+Inv-loop sheet starts letter p q rounds₀ lo₀ hi₀ rounds lo hi =
     (lo ≤ hi) × (hi ≤ length starts)
-    × (asked enoughRounds sheet starts (keyOf letter (p ++ q)) ≡ asked left sheet (drop lo (take hi starts)) (keyOf letter (p ++ q)))
+    × (asked enoughRounds sheet starts (keyOf letter (p ++ q)) ≡ asked (enoughRounds - rounds) sheet (drop lo (take hi starts)) (keyOf letter (p ++ q)))
+    × (rounds ≤ enoughRounds)
 
 abbrev μ-loop : tie.MeasureT-loop
-μ-loop sheet starts letter p q left₀ lo₀ hi₀ left lo hi = left
+μ-loop sheet starts letter p q rounds₀ lo₀ hi₀ rounds lo hi = enoughRounds - rounds
 
 loop-holds : tie.Need-loop-holds Inv-loop μ-loop
 loop-holds c =
     let a = c .before .before .before .before .args in
     let q = keyOf (a .letter) (a .p .now ++ a .q .now) in
-    (omega arith, omega arith, ap (λ (l : List ℕ). asked enoughRounds (a .sheet .now) l q) (sym (take-length (a .starts .now))))
+    (omega arith, omega arith, ap (λ (l : List ℕ). asked enoughRounds (a .sheet .now) l q) (sym (take-length (a .starts .now))), omega arith)
 
 returns : tie.Need-returns Inv-loop μ-loop
 returns c =
@@ -34,10 +36,10 @@ returns c =
     let b = d .before .before .before .before .before in
     let a = b .args in
     let n : length (drop (d .loop .lo) (take (d .loop .hi) (a .starts .now))) ≡ 0 = simp (length-drop, length-take) (omega arith) in
-    sought (a .sheet .now) (a .starts .now) (a .letter) _ _ (b .pre) (sym (d .loop .inv .2 ∙ asked-none _ _ (d .loop .left) _ n))
+    (sought (a .sheet .now) (a .starts .now) (a .letter) _ _ (b .pre) (sym (d .loop .inv .2 ∙ asked-none _ _ (enoughRounds - d .loop .rounds) _ n)), d .loop .inv .3)
 
-sub-left : tie.Need-sub-left Inv-loop μ-loop
-sub-left c = omega arith
+add-rounds : tie.Need-add-rounds Inv-loop μ-loop
+add-rounds c = omega arith
 
 sub-mid : tie.Need-sub-mid Inv-loop μ-loop
 sub-mid c = omega arith
@@ -78,9 +80,9 @@ loop-again c =
     let d = w .before .before .before .before in
     let a = d .before .before .before .before .before .args in
     let q = keyOf (a .letter) (a .p .now ++ a .q .now) in
-    let k = round (a .sheet .now) q (a .starts .now) (d .loop .left) (d .loop .lo) (d .loop .hi) _ _ _ _ (omega arith) (omega arith) (omega arith) refl
+    let k = round-counted (a .sheet .now) q enoughRounds (a .starts .now) (d .loop .rounds) (d .loop .lo) (d .loop .hi) _ _ _ _ (omega arith) (omega arith) (omega arith) refl
     (w .wide .ensures) (e .line-order .ensures) (c .enum-told .given .1) in
-    (omega arith, omega arith, d .loop .inv .2 ∙ k)
+    (omega arith, omega arith, d .loop .inv .2 ∙ k, omega arith)
 
 enum-told-2 : tie.Need-enum-told-2 Inv-loop μ-loop
 enum-told-2 c = search needs
@@ -93,9 +95,9 @@ returns-2 c =
     let b = d .before .before .before .before .before in
     let a = b .args in
     let q = keyOf (a .letter) (a .p .now ++ a .q .now) in
-    let k = round (a .sheet .now) q (a .starts .now) (d .loop .left) (d .loop .lo) (d .loop .hi) _ _ _ _ (omega arith) (omega arith) (omega arith) refl
+    let k = round-counted (a .sheet .now) q enoughRounds (a .starts .now) (d .loop .rounds) (d .loop .lo) (d .loop .hi) _ _ _ _ (omega arith) (omega arith) (omega arith) refl
     (w .wide .ensures) (e .line-order .ensures) (c .enum-told2 .given .1) in
-    sought (a .sheet .now) (a .starts .now) (a .letter) _ _ (b .pre) (sym (d .loop .inv .2 ∙ k))
+    (sought (a .sheet .now) (a .starts .now) (a .letter) _ _ (b .pre) (sym (d .loop .inv .2 ∙ k)), omega arith)
 
 enum-told-3 : tie.Need-enum-told-3 Inv-loop μ-loop
 enum-told-3 c = search needs
@@ -110,17 +112,17 @@ loop-again-2 c =
     let d = w .before .before .before .before in
     let a = d .before .before .before .before .before .args in
     let q = keyOf (a .letter) (a .p .now ++ a .q .now) in
-    let k = round (a .sheet .now) q (a .starts .now) (d .loop .left) (d .loop .lo) (d .loop .hi) _ _ _ _ (omega arith) (omega arith) (omega arith) refl
+    let k = round-counted (a .sheet .now) q enoughRounds (a .starts .now) (d .loop .rounds) (d .loop .lo) (d .loop .hi) _ _ _ _ (omega arith) (omega arith) (omega arith) refl
     (w .wide .ensures) (e .line-order .ensures) (c .enum-told3 .given .1) in
-    (omega arith, omega arith, d .loop .inv .2 ∙ k)
+    (omega arith, omega arith, d .loop .inv .2 ∙ k, omega arith)
 
 returns-3 : tie.Need-returns-3 Inv-loop μ-loop
 returns-3 c =
     let d = c .before in
     let b = d .before .before .before .before .before in
     let a = b .args in
-    let z : d .loop .left ≡ 0 = omega arith in
-    sought (a .sheet .now) (a .starts .now) (a .letter) _ _ (b .pre) (sym (d .loop .inv .2 ∙ asked-spent _ _ (d .loop .left) _ z))
+    let z : enoughRounds - d .loop .rounds ≡ 0 = omega arith in
+    (sought (a .sheet .now) (a .starts .now) (a .letter) _ _ (b .pre) (sym (d .loop .inv .2 ∙ asked-spent _ _ (enoughRounds - d .loop .rounds) _ z)), d .loop .inv .3)
 
 pub seek-spec : {M : Type 1} → statement M
 seek-spec =
@@ -130,7 +132,7 @@ seek-spec =
     μ-loop
     loop-holds
     returns
-    sub-left
+    add-rounds
     sub-mid
     add-mid
     mul-wide

@@ -24,8 +24,8 @@ returns c =
     let l = c .before .before in
     (offer-unknown (s .args .sheet .now) (s .args .word .now) (s .args .p) (l .letters-of .result) (c .before .before .before .before .root-of .result .now) (l .letters-of .ensures) (c .before .before .before .before .root-of .ensures) 16 _ (sym (c .before .is-known .ensures) ∙ not-true _ (c .if1 .taken)), s .pre .3)
 
-classify-in-requires : tie.Need-classify-in-requires
-classify-in-requires c κs = search needs
+decide-origin-requires : tie.Need-decide-origin-requires
+decide-origin-requires c κs = search needs
 
 score-requires : tie.Need-score-requires
 score-requires c κs = search needs
@@ -44,7 +44,7 @@ returns-2 c =
       offer-known (s .args .sheet .now) (s .args .word .now) (s .args .p) (l .letters-of .result) (o .root-of .result .now) (l .letters-of .ensures) (o .root-of .ensures) 16 _ _ _
           (sym (c .before .before .before .before .is-known .ensures) ∙ not-false _ (e .if1 .left))
           (candidate-is (s .args .sheet .now) (s .args .word .now) (s .args .p) (l .letters-of .result) (o .root-of .result .now) (l .letters-of .ensures) (o .root-of .ensures)
-          (k .score .result) (s .args .surface) (d .classify-in .result) (k .score .ensures) (s .pre .0 .counted) (d .classify-in .ensures))
+          (k .score .result) (s .args .surface) (d .decide-origin .result) (k .score .ensures) (s .pre .0 .counted) (d .decide-origin .ensures))
           (c .add .ensures .0),
       c .add .ensures .1,
     )
@@ -58,7 +58,7 @@ offer-spec =
     letters-of-requires
     is-known-requires
     returns
-    classify-in-requires
+    decide-origin-requires
     score-requires
     add-requires
     returns-2)

@@ -23,12 +23,14 @@ returns-2 c =
     let d = c .before .before in
     simp (ne-eqb _ _ (d .before .if1 .left), eq-eqb _ _ (d .if2 .taken), sym (c .before .is-link .ensures) ∙ not-true _ (c .if3 .taken))
 
+is-name-requires : tie.Need-is-name-requires
+is-name-requires c κs = search needs
+
 returns-3 : tie.Need-returns-3
 unfolding isMeant
 returns-3 c =
-    let d = c .before .before .before in
-    let a = d .before .before .before .before in
-    simp (ne-eqb _ _ (d .before .if1 .left), eq-eqb _ _ (d .if2 .taken), sym (a .pre) ∙ not-true _ (c .if4 .taken), and-false)
+    let d = c .before .before .before .before in
+    simp (ne-eqb _ _ (d .before .if1 .left), eq-eqb _ _ (d .if2 .taken), sym (c .before .is-name .ensures) ∙ not-true _ (c .if4 .taken), and-false)
 
 slice-aggregate-ends-with : tie.Need-slice-aggregate-ends-with
 slice-aggregate-ends-with c = search needs
@@ -40,10 +42,9 @@ returns-4 : tie.Need-returns-4
 unfolding isMeant
 returns-4 c =
     let n = c .before .before in
-    let l = n .before in
+    let l = n .before .before in
     let d = l .before .before in
-    let a = d .before .before .before .before in
-    simp (ne-eqb _ _ (d .before .if1 .left), eq-eqb _ _ (d .if2 .taken), sym (l .before .is-link .ensures) ∙ not-false _ (l .if3 .left), sym (a .pre) ∙ not-false _ (n .if4 .left))
+    simp (ne-eqb _ _ (d .before .if1 .left), eq-eqb _ _ (d .if2 .taken), sym (l .before .is-link .ensures) ∙ not-false _ (l .if3 .left), sym (n .before .is-name .ensures) ∙ not-false _ (n .if4 .left))
     (c .ends-with .ensures)
 
 are-letters-requires : tie.Need-are-letters-requires
@@ -64,5 +65,5 @@ returns-6 c =
 pub is-meant-spec : {M : Type 1} → statement M
 is-meant-spec =
     tie.close
-    (tie.spec is-kind-requires returns is-link-requires returns-2 returns-3 slice-aggregate-ends-with ends-with-requires returns-4 are-letters-requires
+    (tie.spec is-kind-requires returns is-link-requires returns-2 is-name-requires returns-3 slice-aggregate-ends-with ends-with-requires returns-4 are-letters-requires
     returns-5 returns-6)

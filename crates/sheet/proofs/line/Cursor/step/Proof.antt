@@ -8,10 +8,11 @@ use mathlib.Core.Bool.{true, false}
 use mathlib.Core.List.{List}
 use lib.ListN.{length, take, drop, length-drop}
 use Rattle.runs.specs.Runs.{beginsWith}
-use Rattle.text.specs.Names.{nameRun}
+use Rattle.text.specs.Names.{nameRun, holdsForbidden}
 use Rattle.sheet.specs.Forms.{Entry, front, isForm, isName, isMeant}
 use Rattle.sheet.specs.Lines.{lineAt}
 use Rattle.sheet.specs.Steps.{headWith, headOf}
+use Rattle.sheet.proofs.Fronts.{front-plain}
 use Rattle.sheet.proofs.Shape.{begins-room, between, closing, rest-all, shaped, formed, unnamed, unmeant, not-between, not-closed}
 use Rattle.sheet.proofs.Heads.{headed, letter-is, headless}
 use Rattle.sheet.proofs.Stepped.{at-end, at-no-form, at-form, letter-at, name-good, name-is, value-is, to-name-end, to-value-end, same-entry}
@@ -99,8 +100,8 @@ returns-4 c =
 add-value-from : tie.Need-add-value-from
 add-value-from c = search needs
 
-read-name-requires-2 : tie.Need-read-name-requires-2
-read-name-requires-2 c κs =
+run-end-requires : tie.Need-run-end-requires
+run-end-requires c κs =
     let n = c .before .before .before .before .before .before in
     let d = n .before .before .before .before in
     begins-room between (sheet-of d) (n .read-name .result .end) (n .read-name .ensures .1) (between-at (c .before) ∙ not-false _ (c .if4 .left))
@@ -131,7 +132,7 @@ abbrev name-end : tie.After-begins-with2 → ℕ
 name-end c = name-read c .read-name .result .end
 
 abbrev value-end : tie.After-begins-with2 → ℕ
-value-end c = c .before .before .before .read-name2 .result .end
+value-end c = c .before .before .before .run-end .result
 
 closed-at : (c : tie.After-begins-with2) → beginsWith closing (drop (value-end c) (sheet-of (start c))) ≡ c .begins-with2 .result
 closed-at c = ap (beginsWith closing) (sym (rest-all (sheet-of (start c)) (value-end c))) ∙ sym (c .begins-with2 .ensures)
@@ -140,7 +141,7 @@ returns-5 : tie.Need-returns-5
 returns-5 c =
     let b = c .before in
     let d = start b in
-    at-no-form (sheet-of d) (at-of d) (d .if1 .left) (not-closed _ (ap (beginsWith closing) (to-value-end (sheet-of d) (at-of d) (name-end b) (value-end b) (name-read b .read-name .ensures .0) (b .before .before .before .read-name2 .ensures .0)) ∙ closed-at b ∙ not-true _ (c .if5 .taken)))
+    at-no-form (sheet-of d) (at-of d) (d .if1 .left) (not-closed _ (ap (beginsWith closing) (to-value-end (sheet-of d) (at-of d) (name-end b) (value-end b) (name-read b .read-name .ensures .0) (b .before .before .before .run-end .ensures .0)) ∙ closed-at b ∙ not-true _ (c .if5 .taken)))
 
 sub-is-meant : tie.Need-sub-is-meant
 sub-is-meant c = search needs
@@ -164,8 +165,8 @@ is-meant-requires : tie.Need-is-meant-requires
 is-meant-requires c κs =
     let b = c .before .before .before in
     let v = b .before .before .before in
-    let n : nameRun (drop (name-end b + 2) (sheet-of (start b))) ≡ value-end b - (name-end b + 2) = omega (arith, v .read-name2 .ensures .0) in
-    v .read-name2 .ensures .2 ∙ ap (λ (k : ℕ). isName (take k (drop (name-end b + 2) (sheet-of (start b))))) n
+    let n : nameRun (drop (name-end b + 2) (sheet-of (start b))) ≡ value-end b - (name-end b + 2) = omega (arith, v .run-end .ensures .0) in
+    ap (λ (k : ℕ). holdsForbidden (take k (drop (name-end b + 2) (sheet-of (start b))))) (sym n) ∙ front-plain (drop (name-end b + 2) (sheet-of (start b)))
 
 -- the entry that is tested for its meaning is that of the line
 meaning-at : (c : tie.After-is-meant) → isMeant (lineAt (sheet-of (start (c .before .before .before .before))) (at-of (start (c .before .before .before .before)))) ≡ c .is-meant .result
@@ -173,7 +174,7 @@ meaning-at c =
     let b = c .before .before .before .before in
     let d = start b in
     let pe = name-read b .read-name .ensures .0 in
-    let pf = b .before .before .before .read-name2 .ensures .0 in
+    let pf = b .before .before .before .run-end .ensures .0 in
     ap isMeant (same-entry (lineAt (sheet-of d) (at-of d)) _ _ _
     (letter-at (sheet-of d) (at-of d) _ (head-of (name-read b .before)))
     (name-is (sheet-of d) (at-of d) (name-end b) (value-end b) pe pf)
@@ -185,10 +186,10 @@ returns-6 c =
     let d = start (c .before .before .before .before .before) in
     at-no-form (sheet-of d) (at-of d) (d .if1 .left) (unmeant _ (meaning-at (c .before) ∙ not-true _ (c .if6 .taken)))
 
-add-t13 : tie.Need-add-t13
-add-t13 c =
+add-end : tie.Need-add-end
+add-end c =
     let b = c .before .before .before .before .before in
-    let r : value-end b + 3 ≤ length (sheet-of (start b)) = begins-room closing (sheet-of (start b)) (value-end b) (b .before .before .before .read-name2 .ensures .1) (closed-at b ∙ not-false _ (c .before .before .before .before .if5 .left)) in
+    let r : value-end b + 3 ≤ length (sheet-of (start b)) = begins-room closing (sheet-of (start b)) (value-end b) (b .before .before .before .run-end .ensures .1) (closed-at b ∙ not-false _ (c .before .before .before .before .if5 .left)) in
     omega (arith, start b .before .before .good)
 
 returns-7 : tie.Need-returns-7
@@ -197,7 +198,7 @@ returns-7 c =
     let d = start b in
     let n = name-read b in
     let pe = n .read-name .ensures .0 in
-    let pf = b .before .before .before .read-name2 .ensures .0 in
+    let pf = b .before .before .before .run-end .ensures .0 in
     let e = name-end b in
     let f = value-end b in
     let t = drop (at-of d) (sheet-of d) in
@@ -205,12 +206,12 @@ returns-7 c =
     let m = ap (beginsWith between) (to-name-end (sheet-of d) (at-of d) e f pe pf) ∙ between-at (b .before .before .before .before .before) ∙ not-false _ (b .before .before .before .before .if4 .left) in
     let k = ap (beginsWith closing) (to-value-end (sheet-of d) (at-of d) e f pe pf) ∙ closed-at b ∙ not-false _ (c .before .before .before .before .if5 .left) in
     let g = sym (name-good (sheet-of d) (at-of d)) ∙ sym (n .read-name .ensures .2) ∙ not-false _ (b .before .before .before .before .before .before .before .before .if3 .left) in
-    at-form (sheet-of d) (at-of d) e f pe pf (d .if1 .left) (formed t (shaped t h m k) g (meaning-at (c .before) ∙ not-false _ (c .if6 .left)))
+    at-form (sheet-of d) (at-of d) e f pe pf _ (letter-at (sheet-of d) (at-of d) _ (head-of (n .before))) (d .if1 .left) (formed t (shaped t h m k) g (meaning-at (c .before) ∙ not-false _ (c .if6 .left)))
 
 pub step-spec : {M : Type 1} → statement M
 step-spec =
     tie.close
     (tie.spec returns sub-head-at part-head-at-start part-head-at-end head-at-requires returns-2 add-from read-name-requires returns-3 sub-begins-with
-    part-begins-with-start part-begins-with-end slice-aggregate-begins-with begins-with-requires returns-4 add-value-from read-name-requires-2
+    part-begins-with-start part-begins-with-end slice-aggregate-begins-with begins-with-requires returns-4 add-value-from run-end-requires
     sub-begins-with-2 part-begins-with-start-2 part-begins-with-end-2 slice-aggregate-begins-with-2 begins-with-requires-2 returns-5 sub-is-meant
-    part-is-meant-start part-is-meant-end sub-is-meant-2 part-is-meant-start-2 part-is-meant-end-2 is-meant-requires returns-6 add-t13 returns-7)
+    part-is-meant-start part-is-meant-end sub-is-meant-2 part-is-meant-start-2 part-is-meant-end-2 is-meant-requires returns-6 add-end returns-7)
