@@ -66,7 +66,8 @@ enum yunthirel_kind {
 
 struct yunthirel_segment {
     uint8_t row;
-    uint8_t kind; /* enum yunthirel_kind */
+    uint8_t kind;   /* enum yunthirel_kind */
+    uint8_t shared; /* 1 where its first letter is also the last one of what stands before it, written once; else 0 */
 };
 
 struct yunthirel_reading {
@@ -82,7 +83,7 @@ struct yunthirel_reading {
 /* Rows and bytes that are always enough. */
 #define YUNTHIREL_READINGS 64
 #define YUNTHIREL_CANDIDATES 16
-#define YUNTHIREL_LISTING_BYTES 35466
+#define YUNTHIREL_LISTING_BYTES 37258
 
 /* The word's readings in rank order: `out` takes an array of struct yunthirel_reading, and its length is in bytes, as everywhere.
  * 16 times the number of readings; else a code whose number is 1 to 8. */
@@ -167,7 +168,7 @@ static inline enum yunthirel_source yunthirel_source_of(uint64_t code) {
 float yunthirel_confidence(const uint8_t *word, size_t word_len, const uint8_t *sheet, size_t sheet_len);
 
 /* The structs are the rows byte for byte. */
-typedef char yunthirel_reading_has_18_bytes[sizeof(struct yunthirel_reading) == 18 ? 1 : -1];
+typedef char yunthirel_reading_has_22_bytes[sizeof(struct yunthirel_reading) == 22 ? 1 : -1];
 typedef char yunthirel_root_has_33_bytes[sizeof(struct yunthirel_root) == 33 ? 1 : -1];
 
 #ifdef __cplusplus

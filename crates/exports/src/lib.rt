@@ -157,7 +157,7 @@ fn outcome_code(outcome: Outcome) -> u64
 
 // Writes the list of the word's readings at the front of `out`, as document 01's program prints it, and gives 16 times the number of
 // bytes. Where nothing is written, and `out` is as it was: 8 for too short a buffer, 7 for more than 64 readings, else the refusal, as
-// `refusal_code` gives it. 35,466 bytes are always enough.
+// `refusal_code` gives it. 37,258 bytes are always enough.
 #[no_mangle]
 pub extern "C" fn yunthirel_listing(word: &[u8], sheet: &[u8], out: &mut [u8]) -> u64
     ensures { λ r. ⌜ (r ≡ outcomeCode (outcomeOf (now (word .entry)) (now (sheet .entry)) (now (out .entry))))

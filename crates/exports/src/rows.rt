@@ -41,9 +41,9 @@ fn put_list(list: Listing, out: &mut [u8]) -> u64
     16 * (n as u64)
 }
 
-// The word's readings in rank order, 18 bytes each, at the front of the buffer, and 16 times their number. Where nothing is stored,
-// and `out` is as it was: 8 for a buffer with less than 18 bytes for each, 7 for more than 64 readings, else the refusal, as
-// `refusal_code` gives it. 1,152 bytes are always enough.
+// The word's readings in rank order, 22 bytes each, at the front of the buffer, and 16 times their number. Where nothing is stored,
+// and `out` is as it was: 8 for a buffer with less than 22 bytes for each, 7 for more than 64 readings, else the refusal, as
+// `refusal_code` gives it. 1,408 bytes are always enough.
 #[no_mangle]
 pub extern "C" fn yunthirel_readings(word: &[u8], sheet: &[u8], out: &mut [u8]) -> u64
     ensures { λ r. ⌜ (r ≡ readingsFilled (now (word .entry)) (now (sheet .entry)) (now (out .entry)) .code)
