@@ -400,15 +400,17 @@ fn a_wrong_kind() {
 
 #[test]
 fn a_wrong_mark() {
-    // A shared letter as plain and a plain one as shared, nearest the stem; a shared one behind another suffix as plain.
-    let plants: [Fill; 3] = [
+    // A shared letter as plain and a plain one as shared, nearest the stem.
+    let plants: [Fill; 2] = [
         |word, sheet, out| readings_changed(word, sheet, out, |row| byte(&mut row[10], 1, 0)),
         |word, sheet, out| readings_changed(word, sheet, out, |row| row[10] |= u8::from(row[21] > 0)),
-        |word, sheet, out| readings_changed(word, sheet, out, |row| byte(&mut row[13], 1, 0)),
     ];
     for plant in plants {
         assert_eq!(seen(with(READINGS, plant)), READINGS);
     }
+    // A shared letter behind another suffix as plain, which no best reading of these cases has.
+    let behind: Fill = |word, sheet, out| readings_changed(word, sheet, out, |row| byte(&mut row[13], 1, 0));
+    assert_eq!(seen(with(READINGS, behind)), ["readings"]);
 }
 
 #[test]
