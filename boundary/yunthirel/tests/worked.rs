@@ -124,14 +124,12 @@ fn the_empty_word_and_the_empty_sheet() {
 fn shared_letters() {
     let marks = |word: &str, sheet: &str| {
         let list = analyze_affixes(word.as_bytes(), sheet.as_bytes()).unwrap();
-        let marks = |reading: &Reading| reading.suffix_segments.iter().map(|segment| segment.shared).collect::<Vec<_>>();
+        let marks =
+            |reading: &Reading| reading.suffix_segments.iter().map(|segment| segment.shared).collect::<Vec<_>>();
         list.iter().map(|reading| (reading.stem.to_string(), marks(reading))).collect::<Vec<_>>()
     };
     let stem = |text: &str| text.to_string();
-    assert_eq!(
-        marks("घरले", "(w घर (wh))\n(w घरल (w))\n"),
-        [(stem("घर"), vec![false]), (stem("घरल"), vec![true])]
-    );
+    assert_eq!(marks("घरले", "(w घर (wh))\n(w घरल (w))\n"), [(stem("घर"), vec![false]), (stem("घरल"), vec![true])]);
     assert_eq!(marks("घरतिरे", "(w घरत (w))\n"), [(stem("घरत"), vec![true, true])]);
 }
 
