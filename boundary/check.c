@@ -180,7 +180,18 @@ static void fields_of_a_reading(void) {
     CHECK(row->prefix_count == 1);
     CHECK(row->prefixes[1] == 0);
     CHECK(row->suffix_count == 1);
-    CHECK(row->segments[1].row == 0 && row->segments[1].kind == 0);
+    CHECK(row->segments[1].row == 0 && row->segments[1].kind == 0 && row->segments[1].shared == 0);
+}
+
+/* The plain remainder and the shared one, and two shared letters in one chain. */
+static void marks(void) {
+    CHECK(yunthirel_count_of(ask_readings("घरले", "(w घर (wh))\n(w घरल (w))\n")) == 2);
+    CHECK(readings[0].score == 279 && readings[0].segments[0].shared == 0);
+    CHECK(readings[1].score == 129 && readings[1].segments[0].shared == 1);
+    CHECK(yunthirel_count_of(ask_readings("घरतिरे", "(w घरत (w))\n")) == 1);
+    CHECK(readings[0].suffix_count == 2);
+    CHECK(readings[0].segments[0].shared == 1 && readings[0].segments[1].shared == 1);
+    CHECK(readings[0].segments[2].shared == 0 && readings[0].segments[3].shared == 0);
 }
 
 static void fields_of_a_root(void) {
@@ -272,17 +283,18 @@ static void origins(void) {
 
 static void sizes(void) {
     CHECK(sizeof(struct yunthirel_code) == 8);
-    CHECK(sizeof(struct yunthirel_segment) == 2);
-    CHECK(sizeof(struct yunthirel_reading) == 18);
+    CHECK(sizeof(struct yunthirel_segment) == 3);
+    CHECK(sizeof(struct yunthirel_reading) == 22);
     CHECK(sizeof(struct yunthirel_root) == 33);
     CHECK(YUNTHIREL_READINGS == 64);
-    CHECK(YUNTHIREL_LISTING_BYTES == 35466);
+    CHECK(YUNTHIREL_LISTING_BYTES == 37258);
 }
 
 int main(void) {
     numbers();
     texts_and_counts();
     kinds();
+    marks();
     fields_of_a_reading();
     fields_of_a_root();
     known();

@@ -52,6 +52,9 @@ static void print_readings(void) {
         }
         for (size_t i = 0; i < row->suffix_count; i++) {
             printf(", %s %s", kinds[row->segments[i].kind], yunthirel_affixes[row->segments[i].row]);
+            if (row->segments[i].shared) {
+                printf(" shared");
+            }
         }
         printf("\n");
     }

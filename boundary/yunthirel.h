@@ -75,7 +75,8 @@ enum yunthirel_kind {
 
 struct yunthirel_segment {
     uint8_t row;
-    uint8_t kind; /* enum yunthirel_kind */
+    uint8_t kind;   /* enum yunthirel_kind */
+    uint8_t shared; /* 1 where its first letter is also the last one of what stands before it, written once; else 0 */
 };
 
 struct yunthirel_reading {
@@ -91,7 +92,7 @@ struct yunthirel_reading {
 /* Rows and bytes that are always enough. */
 #define YUNTHIREL_READINGS 64
 #define YUNTHIREL_CANDIDATES 16
-#define YUNTHIREL_LISTING_BYTES 35466
+#define YUNTHIREL_LISTING_BYTES 37258
 
 /* The word's readings in rank order: `out` takes an array of struct yunthirel_reading, and its length is in bytes, as everywhere.
  * The number of readings (yunthirel_count_of); else a code whose number is 1 to 8. */
@@ -181,7 +182,7 @@ static inline enum yunthirel_source yunthirel_source_of(struct yunthirel_code co
 float yunthirel_confidence(const uint8_t *word, size_t word_len, const uint8_t *sheet, size_t sheet_len);
 
 /* The structs are the rows byte for byte. */
-typedef char yunthirel_reading_has_18_bytes[sizeof(struct yunthirel_reading) == 18 ? 1 : -1];
+typedef char yunthirel_reading_has_22_bytes[sizeof(struct yunthirel_reading) == 22 ? 1 : -1];
 typedef char yunthirel_root_has_33_bytes[sizeof(struct yunthirel_root) == 33 ? 1 : -1];
 
 #ifdef __cplusplus

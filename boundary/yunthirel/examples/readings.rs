@@ -41,7 +41,10 @@ fn print_readings(word: &[u8], sheet: &[u8]) {
     for reading in readings {
         print!("  {} stem {} root {}", reading.score, reading.stem, reading.root);
         reading.prefixes.iter().for_each(|label| print!(", prefix {label}"));
-        reading.suffix_segments.iter().for_each(|segment| print!(", {} {}", segment.kind.as_str(), segment.text));
+        reading.suffix_segments.iter().for_each(|segment| {
+            let shared = if segment.shared { " shared" } else { "" };
+            print!(", {} {}{shared}", segment.kind.as_str(), segment.text)
+        });
         println!();
     }
 }

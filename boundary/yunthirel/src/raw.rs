@@ -8,8 +8,8 @@
 #![allow(unsafe_code)]
 
 /// The bytes of one reading in [`readings`]: stem's end, root's start and score as two bytes each, the low one first; two prefix
-/// rows; four segments, each a row and the number of its kind; how many prefixes, how many segments.
-pub const READING_ROW: usize = 18;
+/// rows; four segments, each a row, the number of its kind and its mark (shared 1); how many prefixes, how many segments.
+pub const READING_ROW: usize = 22;
 
 /// The bytes of one candidate in [`candidates`], and of a decomposition in [`decompose`]: root's start and end, prefix row, how
 /// many prefixes, how many suffixes, origin, letters (w 1, h 2), score as two bytes, the low one first, and 24 suffix rows. A
@@ -23,7 +23,7 @@ pub const READINGS_ROOM: usize = 64 * READING_ROW;
 pub const CANDIDATES_ROOM: usize = 16 * CANDIDATE_ROW;
 
 /// Bytes that are always enough for [`listing`].
-pub const LISTING_ROOM: usize = 35_466;
+pub const LISTING_ROOM: usize = 37_258;
 
 /// The number in a code's lowest byte.
 pub const fn number(code: u64) -> u8 {

@@ -51,6 +51,8 @@ pub struct AffixSegment {
     pub text: &'static str,
     /// Its kind.
     pub kind: AffixKind,
+    /// Whether its first letter is also the last one of what stands before it: the word has that letter once.
+    pub shared: bool,
 }
 
 /// One reading of a word.
@@ -71,27 +73,32 @@ pub struct Reading<'w> {
 impl<'w> Reading<'w> {
     /// The reading that a row of [`raw::readings`] is for this word; none for bytes that cannot be read as one.
     ///
-    /// Checked is that stem and root are parts of the word and UTF-8, that counts, rows and kinds are in their ranges, and that places
+    /// Checked is that stem and root are parts of the word and UTF-8, that counts, rows, kinds and marks are in their ranges, and that places
     /// which are not used are 0; not that the library gives this row, nor its score.
     pub fn of_row(word: &'w [u8], row: &[u8; READING_ROW]) -> Option<Reading<'w>> {
         let number = |at: usize| u16::from_le_bytes([row[at], row[at + 1]]);
         let stem = std::str::from_utf8(word.get(..usize::from(number(0)))?).ok()?;
         let root = stem.get(usize::from(number(2))..)?;
-        let (prefixes, unused) = row[6..8].split_at_checked(usize::from(row[16]))?;
-        let (segments, rest) = row[8..16].split_at_checked(2 * usize::from(row[17]))?;
+        let (prefixes, unused) = row[6..8].split_at_checked(usize::from(row[20]))?;
+        let (segments, rest) = row[8..20].split_at_checked(3 * usize::from(row[21]))?;
         if unused.iter().chain(rest).any(|&byte| byte != 0) {
             return None;
         }
         let label = |&row: &u8| PREFIX_LABELS.get(usize::from(row)).copied();
-        let segment = |pair: &[u8]| {
-            let text = AFFIXES.get(usize::from(pair[0])).copied()?;
-            Some(AffixSegment { text, kind: AffixKind::of_number(pair[1])? })
+        let segment = |bytes: &[u8]| {
+            let text = AFFIXES.get(usize::from(bytes[0])).copied()?;
+            let shared = match bytes[2] {
+                0 => false,
+                1 => true,
+                _ => return None,
+            };
+            Some(AffixSegment { text, kind: AffixKind::of_number(bytes[1])?, shared })
         };
         Some(Reading {
             stem,
             root,
             prefixes: prefixes.iter().map(label).collect::<Option<_>>()?,
-            suffix_segments: segments.chunks_exact(2).map(segment).collect::<Option<_>>()?,
+            suffix_segments: segments.chunks_exact(3).map(segment).collect::<Option<_>>()?,
             score: number(4),
         })
     }
@@ -109,6 +116,10 @@ impl<'w> Reading<'w> {
 /// assert_eq!(readings[1].prefixes, ["निस्"]);
 /// assert_eq!((readings[0].stem, readings[0].root), ("निःशुल्क", "शुल्क"));
 /// assert_eq!(readings[0].suffix_segments[0].kind, AffixKind::CaseMarker);
+/// // घरले as घर and ले, or as घरल and ले with ल written once.
+/// let readings = analyze_affixes("घरले".as_bytes(), "(w घर (wh))\n(w घरल (w))\n".as_bytes())?;
+/// assert_eq!((readings[0].stem, readings[0].suffix_segments[0].shared), ("घर", false));
+/// assert_eq!((readings[1].stem, readings[1].suffix_segments[0].shared), ("घरल", true));
 /// # Ok::<(), yunthirel::Refusal>(())
 /// ```
 pub fn analyze_affixes<'w>(word: &'w [u8], sheet: &[u8]) -> Result<Vec<Reading<'w>>, Refusal> {

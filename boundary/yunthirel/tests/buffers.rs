@@ -12,7 +12,7 @@ type SizeOf = fn(u64) -> usize;
 
 /// The functions that fill a buffer.
 const FILLING: [(Ask, SizeOf); 4] = [
-    (raw::readings, |code| 18 * raw::above(code)),
+    (raw::readings, |code| raw::READING_ROW * raw::above(code)),
     (raw::listing, |code| raw::above(code)),
     (raw::candidates, |code| 33 * raw::above(code)),
     (raw::decompose, |_| 33),
@@ -103,8 +103,8 @@ fn rows_that_are_no_answer_are_not_read() {
     let mut row = [0; raw::READING_ROW];
     raw::readings(word, "(w घर (wh))\n".as_bytes(), &mut row);
     assert!(yunthirel::Reading::of_row(word, &row).is_some());
-    // Stem, root, a prefix row that is not counted, segment row, kind, a segment that is not counted, the two counts.
-    for (at, byte) in [(0, 13), (0, 5), (2, 1), (2, 7), (6, 1), (8, 25), (9, 5), (10, 1), (16, 3), (17, 5)] {
+    // Stem, root, a prefix row that is not counted, segment row, kind, mark, a segment that is not counted, the two counts.
+    for (at, byte) in [(0, 13), (0, 5), (2, 1), (2, 7), (6, 1), (8, 25), (9, 5), (10, 2), (11, 1), (20, 3), (21, 5)] {
         let mut other = row;
         other[at] = byte;
         assert_eq!(yunthirel::Reading::of_row(word, &other), None, "byte {at} as {byte}");

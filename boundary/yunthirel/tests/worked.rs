@@ -15,7 +15,7 @@ fn roots<'w>(word: &'w str, lines: &[&str]) -> Vec<(&'w str, u16)> {
 fn the_listing() {
     let (word, sheet) = ("घरले".as_bytes(), "(w घर (wh))\n".as_bytes());
     let readings = analyze_affixes(word, sheet).expect("accepted");
-    let segment = AffixSegment { text: "ले", kind: AffixKind::CaseMarker };
+    let segment = AffixSegment { text: "ले", kind: AffixKind::CaseMarker, shared: false };
     let reading =
         Reading { stem: "घर", root: "घर", prefixes: vec![], suffix_segments: vec![segment], score: 279 };
     assert_eq!(readings, std::slice::from_ref(&reading));
@@ -118,6 +118,19 @@ fn the_empty_word_and_the_empty_sheet() {
         assert_eq!(check_word(word), Ok(()));
         assert_eq!(check_sheet(sheet), Ok(()));
     }
+}
+
+#[test]
+fn shared_letters() {
+    let marks = |word: &str, sheet: &str| {
+        let list = analyze_affixes(word.as_bytes(), sheet.as_bytes()).unwrap();
+        let marks =
+            |reading: &Reading| reading.suffix_segments.iter().map(|segment| segment.shared).collect::<Vec<_>>();
+        list.iter().map(|reading| (reading.stem.to_string(), marks(reading))).collect::<Vec<_>>()
+    };
+    let stem = |text: &str| text.to_string();
+    assert_eq!(marks("घरले", "(w घर (wh))\n(w घरल (w))\n"), [(stem("घर"), vec![false]), (stem("घरल"), vec![true])]);
+    assert_eq!(marks("घरतिरे", "(w घरत (w))\n"), [(stem("घरत"), vec![true, true])]);
 }
 
 #[test]

@@ -59,9 +59,10 @@ module _ (w piece : List ℕ) (deeper : Chain → ℕ → List ℕ → List Read
     pub row-plain : shared piece (getD affixes k []) ≡ [] → f ≡ plusAll w a (rowWalk deeper ask c piece k)
     row-plain q = rw (pl, q, append-nil, sym pn, sym pr) pf
 
-    pub row-both : (other : List ℕ) (g : Rows) → shared piece (getD affixes k []) ≡ other ∷ [] → g ≡ plusAll w f (deeper next rows other) → g ≡ plusAll w a (rowWalk deeper ask c piece k)
-    row-both other g q e =
-        rw (pl, q, sym pn, sym pr) (e ∙ ap (λ (r : Rows). plusAll w r (deeper next rows other)) pf ∙ sym (plus-append w a (deeper next rows left) (deeper next rows other)))
+    pub row-both : (last : Chain) → last ≡ pushedOf c (segmentOf ask (record { row = k; isShared = true })) → (other : List ℕ) (g : Rows)
+        → shared piece (getD affixes k []) ≡ other ∷ [] → g ≡ plusAll w f (deeper last rows other) → g ≡ plusAll w a (rowWalk deeper ask c piece k)
+    row-both last pm other g q e =
+        rw (pl, q, sym pn, sym pm, sym pr) (e ∙ ap (λ (r : Rows). plusAll w r (deeper last rows other)) pf ∙ sym (plus-append w a (deeper next rows left) (deeper last rows other)))
 
 -- a piece that does not end in the text has no remainder
 no-shed : (p t : List ℕ) → endsIn t p ≡ false → sheds p t ≡ false

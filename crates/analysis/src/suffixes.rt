@@ -154,7 +154,7 @@ pub(crate) fn visit(
     f
 }
 
-// The readings that strip row k from the piece: what is left plain, then what is left shared.
+// The readings that strip row k from the piece: what is left plain, then what is left shared, each with its mark.
 fn below(
     word: &[u8],
     sheet: &[u8],
@@ -182,9 +182,16 @@ fn below(
         return n;
     }
     let kind = kind_at(sheet, starts, texts, cuts, k);
-    let next = pushed(chain, Segment { label: k, kind });
     let rows = rows_after(k);
     let plain = rests.plain;
+    let next = pushed(
+        chain,
+        Segment {
+            label: k,
+            kind,
+            shared: false,
+        },
+    );
     let f = visit(
         word,
         sheet,
@@ -206,6 +213,14 @@ fn below(
         return f;
     }
     let shared = rests.shared;
+    let other = pushed(
+        chain,
+        Segment {
+            label: k,
+            kind,
+            shared: true,
+        },
+    );
     visit(
         word,
         sheet,
@@ -216,7 +231,7 @@ fn below(
         form_cuts,
         Piece {
             end: shared,
-            chain: next,
+            chain: other,
             rows,
         },
         surface,

@@ -1,4 +1,4 @@
--- Buffers that are always long enough: 1,152 bytes for the readings of a word, 528 for its root candidates, 35,466 for the list of its
+-- Buffers that are always long enough: 1,408 bytes for the readings of a word, 528 for its root candidates, 37,258 for the list of its
 -- readings as a text. Assumes nothing.
 use Prim.Native.Nat.{ℕ, _*_, _≤_, _<_}
 use native.Mathlib.Omega.{arith}
@@ -28,6 +28,7 @@ use Rattle.paths.specs.Chains.{Route}
 use Rattle.paths.specs.Counted.{AtLeast}
 use Rattle.paths.specs.Readings.{IsReading, readingOf, filled, segmentOf}
 use Rattle.ranking.specs.Stored.{noSegment, readingBytes, readingWidth}
+use Rattle.ranking.specs.Kept.{keptBytes}
 use Rattle.paths.proofs.Promises.{Listed}
 use Rattle.roots.specs.Answers.{rootsFor}
 use Rattle.roots.proofs.Bounded.{roots-few}
@@ -46,7 +47,7 @@ use Rattle.exports.proofs.Widths.{rows-long}
 use Rattle.exports.proofs.Put.{both}
 
 -- a list that is given is stored, all of it
-pub readings-enough : (w s out : List ℕ) → 1152 ≤ length out → saidOf w s ≡ said.Listed →
+pub readings-enough : (w s out : List ℕ) → keptBytes ≤ length out → saidOf w s ≡ said.Listed →
     (answered (length (rowsGiven w s)) ≡ readingsFilled w s out .code)
     × (each readingBytes (rowsGiven w s) ++ drop (readingWidth * length (rowsGiven w s)) out ≡ readingsFilled w s out .buffer)
 unfolding readingsFilled
@@ -88,13 +89,13 @@ pub four-segments : (ask : Ask) (w : List ℕ) (p : Route) → length (readingOf
 unfolding readingOf
 four-segments ask w p = filled-long 4 noSegment (reverse (map (segmentOf ask) (p .strips)))
 
--- each row of a list has at most 554 bytes
+-- each row of a list has at most `rowRoom` bytes
 rows-size : (ask : Ask) (w : List ℕ) (ps : List Route) → length w ≤ 192 → ((p : Route) → List·Memᴰ p ps → readingOf ask w p .score ≤ 612)
     → length (rowTexts w (map (readingOf ask w) ps)) ≤ length ps * rowRoom
 rows-size ask w [] h k = omega arith
 rows-size ask w (p ∷ ps) h k =
     let c = k p (List·Memᴰ·head refl) in
-    let a : length (rowText w (readingOf ask w p)) ≤ 554 = reading-size w (readingOf ask w p) h (two-prefixes ask w p) (four-segments ask w p) (omega arith) in
+    let a : length (rowText w (readingOf ask w p)) ≤ rowRoom = reading-size w (readingOf ask w p) h (two-prefixes ask w p) (four-segments ask w p) (omega arith) in
     let r = rows-size ask w ps h (λ q m. k q (List·Memᴰ·tail m)) in
     let l = length-append (rowText w (readingOf ask w p)) (rowTexts w (map (readingOf ask w) ps)) in
     let m = suc-mul (length ps) rowRoom in
@@ -108,7 +109,7 @@ given-paths w s e =
     (λ m. let z : _≡_ {A = ℕ} 0 1 = ap (length {A = ℕ}) (ap saidNumbers (sym e) ∙ seven-exactly w s (a .0) (a .1) .1 m) in absurd (omega arith)) in
     (word-short w (a .0), all-listed w s (a .0) (a .1) few .1)
 
--- the text of a list that is given has at most 35,466 bytes
+-- the text of a list that is given has at most 37,258 bytes
 pub listing-bounded : (w s : List ℕ) → saidOf w s ≡ said.Listed → length (listingText w (rowsGiven w s)) ≤ listingRoom
 listing-bounded w s e =
     let g = given-paths w s e in

@@ -42,8 +42,8 @@ fn put_list(list: Listing, out: &mut [u8]) -> u64
     256 * (n as u64)
 }
 
-// The word's readings in rank order, 18 bytes each, at the front of the buffer, and their number. Where nothing is stored, and `out` is
-// as it was: the refusal, 8 for a buffer with less than 18 bytes for each. 1,152 bytes are always enough.
+// The word's readings in rank order, 22 bytes each, at the front of the buffer, and their number. Where nothing is stored, and `out` is
+// as it was: the refusal, 8 for a buffer with less than 22 bytes for each. 1,408 bytes are always enough.
 #[no_mangle]
 pub extern "C" fn yunthirel_readings(word: &[u8], sheet: &[u8], out: &mut [u8]) -> u64
     ensures { λ r. ⌜ (r ≡ readingsFilled (now (word .entry)) (now (sheet .entry)) (now (out .entry)) .code)

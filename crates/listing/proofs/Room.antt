@@ -1,4 +1,4 @@
--- How long a text can be: of a word of at most 192 bytes, a row has at most 554 bytes and a list of 64 rows at most 35,466. Assumes
+-- How long a text can be: of a word of at most 192 bytes, a row has at most 582 bytes and a list of 64 rows at most 37,258. Assumes
 -- nothing.
 use Prim.Native.Nat.{ℕ, zero, suc, _+_, _-_, _*_, _/_, _%_, _≤_, _<_, min}
 use native.Mathlib.Omega.{arith}
@@ -19,7 +19,7 @@ use Rattle.ranking.specs.declared.AffixKind.the-variants.{Particle, CaseMarker,
 use Rattle.ranking.specs.declared.Segment.{Segment}
 use Rattle.ranking.specs.declared.Reading.{Reading}
 use Rattle.writing.specs.Refused.{refusedText}
-use Rattle.listing.specs.Texts.{kindText, segmentText, labelText, prefixTexts, segmentTexts, rowText, rowTexts, listingText, rowRoom, listingRoom}
+use Rattle.listing.specs.Texts.{kindText, markText, segmentText, labelText, prefixTexts, segmentTexts, rowText, rowTexts, listingText, rowRoom, listingRoom}
 use Rattle.writing.proofs.Sizes.{parted-size, digit-size, count-size, number-size}
 
 -- a row of a table none of whose rows is longer than m, and what stands for one that is not there
@@ -45,11 +45,16 @@ kind-size PluralMarker = omega arith
 kind-size Postposition = omega arith
 kind-size ComparisonMarker = omega arith
 
-segment-size : (s : Segment) → length (segmentText s) ≤ 29
+mark-size : (b : Bool) → length (markText b) ≤ 7
+mark-size true = omega arith
+mark-size false = omega arith
+
+segment-size : (s : Segment) → length (segmentText s) ≤ 36
 unfolding segmentText
 segment-size s =
     let a = affix-size (s .label) in
     let k = kind-size (s .kind) in
+    let m = mark-size (s .shared) in
     simp length-append (omega arith)
 
 part-size : (w : List ℕ) (from to : ℕ) → length (part w from to) ≤ length w
@@ -61,7 +66,7 @@ part-size w from to = by (leb from to && leb to (length w))
     by false = omega arith
 
 pub reading-size : (w : List ℕ) (r : Reading) → length w ≤ 192 → length (r .prefixes) ≡ 2 → length (r .segments) ≡ 4 → r .score < 65536
-    → length (rowText w r) ≤ 554
+    → length (rowText w r) ≤ rowRoom
 unfolding rowText
 reading-size w r h p s c =
     let a = part-size w 0 (r .stem) in
@@ -69,11 +74,11 @@ reading-size w r h p s c =
     let t = length-take (r .«prefix_count») (r .prefixes) in
     let u = length-take (r .«suffix_count») (r .segments) in
     let d = parted-size labelText 15 label-size 0 (take (r .«prefix_count») (r .prefixes)) in
-    let e = parted-size segmentText 29 segment-size 0 (take (r .«suffix_count») (r .segments)) in
+    let e = parted-size segmentText 36 segment-size 0 (take (r .«suffix_count») (r .segments)) in
     let n = number-size (r .score) (omega arith) in
     simp length-append (omega arith)
 
--- the rows from the i-th on, where those before it have at most 554 bytes each
+-- the rows from the i-th on, where those before it have at most `rowRoom` bytes each
 module _ (w : List ℕ) (i whole : ℕ) (rs : List Reading) (so-far : whole ≤ i * rowRoom + length (rowTexts w rs)) where
   pub rows-turn : (r : Reading) (rest : List Reading) → rs ≡ r ∷ rest → length (rowText w r) ≤ rowRoom → whole ≤ (i + 1) * rowRoom + length (rowTexts w rest)
   rows-turn r rest e h = let z = ap (λ (l : List Reading). length (rowTexts w l)) e ∙ length-append (rowText w r) (rowTexts w rest) in omega arith

@@ -1,6 +1,7 @@
 -- Document 01's listing, and the two lines of a refusal, computed from the definitions byte by byte. Assumes nothing.
 use Prim.Native.Nat.{ℕ}
 use mathlib.Core.Path.{_≡_, refl}
+use mathlib.Core.Bool.{false}
 use mathlib.Core.List.{List, [], _∷_}
 use Rattle.tables.specs.Rows.{prefixLabels, pluralMarkers, caseMarkers, particles}
 use Rattle.tables.specs.Tables.{affixes}
@@ -17,7 +18,7 @@ abbrev word : List ℕ
 word = 224 ∷ 164 ∷ 152 ∷ 224 ∷ 164 ∷ 176 ∷ 224 ∷ 164 ∷ 178 ∷ 224 ∷ 165 ∷ 135 ∷ []
 
 abbrev unused : Segment
-unused = record { label = 0; kind = Particle }
+unused = record { label = 0; kind = Particle; shared = false }
 
 -- stem and root घर, no prefix, ले by its row among the 25 texts
 abbrev reading : Reading
@@ -26,7 +27,7 @@ reading = record {
   root = 0;
   score = 279;
   prefixes = 0 ∷ 0 ∷ [];
-  segments = record { label = 15; kind = CaseMarker } ∷ unused ∷ unused ∷ unused ∷ [];
+  segments = record { label = 15; kind = CaseMarker; shared = false } ∷ unused ∷ unused ∷ unused ∷ [];
   «prefix_count» = 0;
   «suffix_count» = 1;
 }

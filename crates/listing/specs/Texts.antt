@@ -1,10 +1,12 @@
 -- The text of a list of readings (document 01, "Readings worked by hand"). Assumes nothing.
-use Prim.Native.Nat.{ℕ}
+use Prim.Native.Nat.{ℕ, _+_, _*_}
+use mathlib.Core.Bool.{Bool, true, false}
 use mathlib.Core.List.{List, [], _∷_, _++_, map}
 use lib.ListN.{length, take, getD}
 use Rattle.tables.specs.Rows.{prefixLabels}
 use Rattle.tables.specs.Tables.{affixes}
 use Rattle.ranking.specs.Rank.{stemText, rootText}
+use Rattle.ranking.specs.Lists.{listLimit}
 use Rattle.ranking.specs.declared.AffixKind.{AffixKind}
 use Rattle.ranking.specs.declared.AffixKind.the-variants.{Particle, CaseMarker, PluralMarker, Postposition, ComparisonMarker}
 use Rattle.ranking.specs.declared.Segment.{Segment}
@@ -20,14 +22,20 @@ kindText PluralMarker = 0x70 ∷ 0x6C ∷ 0x75 ∷ 0x72 ∷ 0x61 ∷ 0x6C ∷ []
 kindText Postposition = 0x70 ∷ 0x6F ∷ 0x73 ∷ 0x74 ∷ []  -- post
 kindText ComparisonMarker = 0x63 ∷ 0x6F ∷ 0x6D ∷ 0x70 ∷ []  -- comp
 
--- (LABEL KIND)
+-- what follows the kind where the first letter is shared
+abbrev pub markText : Bool → List ℕ
+markText true = 0x20 ∷ 0x73 ∷ 0x68 ∷ 0x61 ∷ 0x72 ∷ 0x65 ∷ 0x64 ∷ []  -- shared, behind a space
+markText false = []
+
+-- (LABEL KIND), or (LABEL KIND shared)
 unfoldable pub segmentText : Segment → List ℕ
 segmentText s =
     (0x28 ∷ [])  -- (
     ++ (getD affixes (s .label) []
     ++ ((0x20 ∷ [])
     ++ (kindText (s .kind)
-    ++ (0x29 ∷ []))))  -- )
+    ++ (markText (s .shared)
+    ++ (0x29 ∷ [])))))  -- )
 
 -- the label of a row of PREFIX_FORMS
 abbrev pub labelText : ℕ → List ℕ
@@ -67,9 +75,9 @@ listingText w rs =
     ++ ((0x29 ∷ 0x0A ∷ [])  -- ) and 0A
     ++ rowTexts w rs))
 
--- how long a row and a list can be, of a word that is not too long
+-- how long a row and a list can be, of a word that is not too long: the first line has at most 10 bytes
 abbrev pub rowRoom : ℕ
-rowRoom = 554
+rowRoom = 582
 
 abbrev pub listingRoom : ℕ
-listingRoom = 35466
+listingRoom = 10 + listLimit * rowRoom

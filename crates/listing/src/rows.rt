@@ -18,7 +18,7 @@ ghost use Rattle.tables.specs.Rows.{prefixLabels};
 ghost use Rattle.ranking.specs.Lists.{rowsOf};
 ghost use Rattle.writing.specs.Placed.{Wrote};
 ghost use Rattle.writing.specs.Refused.{gap, parted, refusedText};
-ghost use Rattle.listing.specs.Texts.{kindText, segmentText, prefixTexts, segmentTexts, rowText, rowTexts, listingText, rowRoom, listingRoom};
+ghost use Rattle.listing.specs.Texts.{kindText, markText, segmentText, prefixTexts, segmentTexts, rowText, rowTexts, listingText, rowRoom, listingRoom};
 ghost use Rattle.listing.specs.Labels.{labelAt};
 
 fn wide8(x: u8) -> usize
@@ -74,7 +74,17 @@ fn put_kind(out: &mut [u8], at: usize, kind: AffixKind) -> usize
     }
 }
 
-// Puts a segment: its label and its kind.
+// Puts the mark of a shared first letter, nothing for a plain suffix.
+fn put_mark(out: &mut [u8], at: usize, shared: bool) -> usize
+    ensures { λ r. ⌜ Wrote (now (out .entry)) (now (out .exit)) at r (markText shared) ⌝ }
+{
+    if !shared {
+        return at;
+    }
+    put(out, at, b" shared")
+}
+
+// Puts a segment: its label, its kind, and its mark where its first letter is shared.
 fn put_segment(out: &mut [u8], at: usize, texts: &[u8], cuts: &[u16], s: Segment) -> usize
     requires { ⌜ Laid affixes (now texts) (now cuts) ⌝ }
     ensures { λ r. ⌜ Wrote (now (out .entry)) (now (out .exit)) at r (segmentText s) ⌝ }
@@ -84,7 +94,8 @@ fn put_segment(out: &mut [u8], at: usize, texts: &[u8], cuts: &[u16], s: Segment
     let space = put(out, label, b" ");
     let kind = s.kind;
     let named = put_kind(out, space, kind);
-    put(out, named, b")")
+    let marked = put_mark(out, named, s.shared);
+    put(out, marked, b")")
 }
 
 // Puts the prefix labels of a reading.

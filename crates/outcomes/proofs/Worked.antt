@@ -31,7 +31,7 @@ use Rattle.bytes.specs.Bytes.{indexAfter, indexOf}
 use Rattle.writing.specs.Decimal.{digitsIn, decimal}
 use Rattle.listing.specs.Texts.{segmentText, rowText, listingText}
 use Rattle.listing.specs.Printed.{readingsText, printed}
-use Rattle.outcomes.specs.Words.{ghar, gharle, le, nihshulk, shulk, nir, nis, amanav, manav, a, asaphal, saphal, khairaheko, nakhairaheko, khai, nakhai, khanu, rahanu, gariraheko, gari, garnu, garanu, listing, gharkota, gharko, ta, ko}
+use Rattle.outcomes.specs.Words.{ghar, gharle, le, nihshulk, shulk, nir, nis, amanav, manav, a, asaphal, saphal, khairaheko, nakhairaheko, khai, nakhai, khanu, rahanu, gariraheko, gari, garnu, garanu, listing, gharkota, gharko, ta, ko, gharl, gharat, gharatire, tira, re, sharedListing, twiceListing}
 use Rattle.outcomes.specs.Outcomes.{Outcome, outcomeOf}
 use Rattle.outcomes.specs.Cases.{Case, cases}
 
@@ -43,6 +43,6 @@ unfolding within utf8Char opened after run isUtf8 opens chars forbidden nameRun 
     ghar gharle le nihshulk shulk nir nis amanav manav a asaphal saphal khairaheko nakhairaheko khai nakhai khanu rahanu gariraheko gari garnu garanu
     listing indexAfter indexOf printed readingsText listingText rowText segmentText decimal digitsIn
     gharkota gharko ta ko suffixes remainders keepsPronoun isWord labelRow leastRoot isKept leftOf isTaken stripRow leavesWord behindFront decomposedOf morphemeOf
-    morphemeAnswer
+    morphemeAnswer gharl gharat gharatire tira re sharedListing twiceListing
     cases
 worked = refl

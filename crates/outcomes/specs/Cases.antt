@@ -1,11 +1,12 @@
--- The cases of document 01 ("Readings worked by hand") that are marked *, one line each: what is asked, and its outcome.
+-- The cases of document 01 ("Readings worked by hand") that are marked *, and those of document 02 (b), one line each: what is asked,
+-- and its outcome.
 -- Assumes nothing.
 use Prim.Native.Nat.{ℕ}
 use mathlib.Core.Bool.{true, false}
 use mathlib.Core.List.{List, [], _∷_, _++_}
 use Rattle.sheet.specs.Forms.{written}
-use Rattle.ranking.specs.declared.AffixKind.the-variants.{CaseMarker}
-use Rattle.outcomes.specs.Words.{ghar, gharle, le, nihshulk, shulk, nir, nis, amanav, manav, a, asaphal, saphal, khairaheko, nakhairaheko, khai, nakhai, khanu, rahanu, gariraheko, gari, garnu, garanu, listing, gharkota, gharko, ta, ko}
+use Rattle.ranking.specs.declared.AffixKind.the-variants.{CaseMarker, Particle}
+use Rattle.outcomes.specs.Words.{ghar, gharle, le, nihshulk, shulk, nir, nis, amanav, manav, a, asaphal, saphal, khairaheko, nakhairaheko, khai, nakhai, khanu, rahanu, gariraheko, gari, garnu, garanu, listing, gharkota, gharko, ta, ko, gharl, gharat, gharatire, tira, re, sharedListing, twiceListing}
 use Rattle.outcomes.specs.Outcomes.{Question, prints, readings, progressive, decompose, Suffix, Row, Outcome, text, list, form, noForm, parts}
 
 -- a line of a sheet, with its 0A
@@ -34,7 +35,17 @@ abbrev pub row : List ℕ → List ℕ → List (List ℕ) → List Suffix → �
 row stem root prefixes suffixes score = record { stem = stem; root = root; prefixes = prefixes; suffixes = suffixes; score = score }
 
 abbrev pub caseLe : Suffix
-caseLe = record { label = le; kind = CaseMarker }
+caseLe = record { label = le; kind = CaseMarker; isShared = false }
+
+-- the same suffixes, and others, with their first letter shared
+abbrev pub sharedLe : Suffix
+sharedLe = record { label = le; kind = CaseMarker; isShared = true }
+
+abbrev pub sharedTira : Suffix
+sharedTira = record { label = tira; kind = CaseMarker; isShared = true }
+
+abbrev pub sharedRe : Suffix
+sharedRe = record { label = re; kind = Particle; isShared = true }
 
 pub record Case : Type 0 where
   pub asked : Question
@@ -57,4 +68,8 @@ cases =
     case (progressive gariraheko (link gari garnu ++ verb garanu ++ verb rahanu)) noForm ∷
     case (decompose gharkota (word ghar ++ word gharko)) (parts ghar [] (ta ∷ ko ∷ [])) ∷
     case (readings [] []) (list []) ∷
+    case (prints (gharle ++ 0x0A ∷ (both ghar ++ word gharl))) (text sharedListing) ∷
+    case (readings gharle (both ghar ++ word gharl)) (list (row ghar ghar [] (caseLe ∷ []) 279 ∷ row gharl gharl [] (sharedLe ∷ []) 129 ∷ [])) ∷
+    case (prints (gharatire ++ 0x0A ∷ word gharat)) (text twiceListing) ∷
+    case (readings gharatire (word gharat)) (list (row gharat gharat [] (sharedTira ∷ sharedRe ∷ []) 146 ∷ [])) ∷
     []

@@ -32,12 +32,13 @@ pub data Question : Type 0 where
   progressive : List ℕ → List ℕ → Question
   decompose : List ℕ → List ℕ → Question
 
--- a suffix: its label and its kind
+-- a suffix: its label, its kind, and whether its first letter is shared
 pub record Suffix : Type 0 where
   pub label : List ℕ
   pub kind : AffixKind
+  pub isShared : Bool
 
--- a row of the list: stem, root, prefix labels, label and kind of each suffix, score
+-- a row of the list: stem, root, prefix labels, label, kind and mark of each suffix, score
 pub record Row : Type 0 where
   pub stem : List ℕ
   pub root : List ℕ
@@ -56,7 +57,7 @@ pub data Outcome : Type 0 where
   refused : List ℕ → Outcome
 
 abbrev pub suffixOf : Segment → Suffix
-suffixOf s = record { label = getD affixes (s .label) []; kind = s .kind }
+suffixOf s = record { label = getD affixes (s .label) []; kind = s .kind; isShared = s .shared }
 
 abbrev pub labelOf : ℕ → List ℕ
 labelOf row = getD prefixLabels row []

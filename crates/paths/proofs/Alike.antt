@@ -121,7 +121,7 @@ module _ (ask ask′ : Ask) (w : List ℕ) (agree : (letter : ℕ) (name : List 
     strip-same : (x : Strip) → x .row < allRows
         → stripWalk f ask c piece x ≡ stripWalk g ask′ c piece x
     strip-same x h =
-        ap (λ (k : AffixKind). onLeft (f (pushedOf c (record { label = x .row; kind = k })) (rowsAfter (x .row))) (leftBy piece x)) (kind-same (x .row) h)
+        ap (λ (k : AffixKind). onLeft (f (pushedOf c (record { label = x .row; kind = k; shared = x .isShared })) (rowsAfter (x .row))) (leftBy piece x)) (kind-same (x .row) h)
         ∙ on-left-same _ _ (leftBy piece x) (left-few piece x)
         (λ left q. e (pushedOf c (segmentOf ask′ x)) (rowsAfter (x .row)) left (rows-fewer (x .row)) (left-part w piece x left h t q))
 

@@ -2,14 +2,14 @@
 -- and Keys cite these laws. Assumes nothing.
 use Prim.Native.Nat.{ℕ}
 use mathlib.Core.Path.{_≡_, refl, sym, ap, _∙_}
-use mathlib.Core.Bool.{Bool, true, false, _&&_}
-use mathlib.Core.List.{List, [], _∷_, _++_, nil≢cons, head-eq-of-cons-eq}
+use mathlib.Core.Bool.{Bool, true, false, not, _&&_}
+use mathlib.Core.List.{List, [], _∷_, _++_, map, nil≢cons, head-eq-of-cons-eq}
 use lib.ListN.{length, drop}
 use lib.Dec.{leb, ltb}
 use Rattle.runs.specs.Runs.{pick, beginsWith, endsIn}
 use Rattle.runs.proofs.Begins.{and-left, and-right}
 use Rattle.text.specs.Characters.{chars}
-use Rattle.strips.specs.Suffix.{firstLength, firstCharacter, sheds, isLong, without, plain, shared}
+use Rattle.strips.specs.Suffix.{firstLength, firstCharacter, sheds, isLong, without, plain, shared, Marked, marked}
 use Rattle.strips.specs.Prefix.{leastAfter, after, leaves, prefixRemainder}
 use Rattle.strips.proofs.Remainders.{plain-joined, shared-joined}
 use Rattle.paths.specs.Chains.{Strip, textOf, leftBy}
@@ -51,3 +51,24 @@ left-front piece x left e =
     go : (b : Bool) → sheds piece (textOf x) ≡ true → (rest : List ℕ) × (kept b piece (textOf x) ++ rest ≡ piece)
     go true h = (drop (firstLength (textOf x)) (textOf x), shared-joined piece (textOf x) h)
     go false h = (textOf x, plain-joined piece (textOf x) h)
+
+-- those of marked remainders that have this mark
+abbrev pub onlyMarked : Bool → List Marked → List Marked
+onlyMarked b [] = []
+onlyMarked b (x ∷ xs) = pick (pick b (x .isShared) (not (x .isShared))) (x ∷ onlyMarked b xs) (onlyMarked b xs)
+
+-- what a strip leaves is what the single strip says with the strip's mark
+pub left-marked : (piece : List ℕ) (x : Strip) → map (λ (l : List ℕ). record { left = l; isShared = x .isShared }) (leftBy piece x) ≡ onlyMarked (x .isShared) (marked piece (textOf x))
+unfolding marked plain shared
+left-marked piece x = go (x .isShared) (sheds piece (textOf x)) (isLong (textOf x))
+  where
+    go : (m a b : Bool) → map (λ (l : List ℕ). record { left = l; isShared = m })
+        (pick m (pick (a && b) ((without piece (textOf x) ++ firstCharacter (textOf x)) ∷ []) []) (pick a (without piece (textOf x) ∷ []) []))
+        ≡ onlyMarked m (map (λ (l : List ℕ). record { left = l; isShared = false }) (pick a (without piece (textOf x) ∷ []) [])
+        ++ map (λ (l : List ℕ). record { left = l; isShared = true }) (pick (a && b) ((without piece (textOf x) ++ firstCharacter (textOf x)) ∷ []) []))
+    go true true true = refl
+    go true true false = refl
+    go true false b = refl
+    go false true true = refl
+    go false true false = refl
+    go false false b = refl

@@ -3,21 +3,24 @@ use Prim.Native.Nat.{ℕ, _≤_}
 use mathlib.Core.Path.{_≡_, refl, sym, ap, _∙_}
 use mathlib.Core.Bool.{true}
 use mathlib.Core.Logic.{_↔_}
-use mathlib.Core.List.{List, [], map, List·Memᴰ}
+use native.Mathlib.Omega.{arith}
+use mathlib.Core.List.{List, [], map, reverse, List·Memᴰ}
 use lib.ListN.{length}
 use Rattle.text.specs.Utf8.{isUtf8}
 use Rattle.text.specs.Characters.{chars}
 use Rattle.sheet.specs.Replies.{Ask, reply, Alike}
 use Rattle.ranking.specs.Lists.{Rows, rows, over, plusAll}
 use Rattle.ranking.specs.Rank.{stemText, rootText}
+use Rattle.ranking.specs.Stored.{noSegment}
 use Rattle.ranking.specs.declared.Reading.{Reading}
-use Rattle.paths.specs.Chains.{Route, PathOf}
-use Rattle.paths.specs.Readings.{Parts, partsOf, IsReading, readingOf}
+use Rattle.paths.specs.Chains.{allRows, mostStrips, Strip, textOf, Suffixed, Route, PathOf}
+use Rattle.paths.specs.Readings.{Parts, partsOf, IsReading, segmentOf, filled, readingOf}
 use Rattle.paths.specs.Rank.{rankedBefore}
 use Rattle.paths.specs.Counted.{Pairwise, Distinct, AtLeast}
 use Rattle.paths.specs.Questions.{Own}
 use Rattle.paths.specs.Walk.{wordWalk}
 use Rattle.paths.proofs.Stated.{rowPaths, rows-given, row-path, rows-ranked, rows-once, stem-is, root-is}
+use Rattle.paths.proofs.Unique.{strips-unique}
 use Rattle.paths.proofs.Over as counted
 use Rattle.paths.proofs.Score.{path-score}
 use Rattle.paths.proofs.Alike as questions
@@ -27,7 +30,8 @@ abbrev pub collected : Ask → List ℕ → Rows
 collected ask w = plusAll w (rows []) (wordWalk ask (chars w) w)
 
 -- the rows of a list: every path of the word and nothing besides, no reading twice, each before all later ones by rank, each with its
--- segments, its stem and root as the parts of the word that they are, and its score, which is at most 612
+-- segments, which carry the marks of its path, plain or shared, its stem and root as the parts of the word that they are, and its
+-- score, which is at most 612
 pub record Listed (ask : Ask) (w : List ℕ) (rs : List Reading) : Type 0 where
   pub paths : List Route
   pub each : (p : Route) → List·Memᴰ p paths ↔ PathOf ask w p
@@ -57,6 +61,17 @@ module _ (ask : Ask) (w : List ℕ) where
       scores = λ h p m. path-score ask w p h (row-path ask w p .0 m);
     },
   )
+
+-- the marks of a reading are those of its one path, which is its earliest: no two chains of plain and shared strips with the same
+-- labels lead from a word to the same stem
+pub marks-once : (ask : Ask) (w stem : List ℕ) (xs ys : List Strip) → Suffixed ask allRows w xs stem → Suffixed ask allRows w ys stem
+    → map textOf xs ≡ map textOf ys → xs ≡ ys
+marks-once ask w stem xs ys = strips-unique ask allRows (omega arith) w xs ys stem
+
+-- and the segments of a listed reading carry them, nearest the stem first, behind them blank ones
+pub marked-segments : (ask : Ask) (w : List ℕ) (p : Route) → readingOf ask w p .segments ≡ filled mostStrips noSegment (reverse (map (segmentOf ask) (p .strips)))
+unfolding readingOf
+marked-segments ask w p = refl
 
 -- two sheets alike in their replies to the word's own questions
 pub same-answer : (s t w : List ℕ) → isUtf8 w ≡ true → ((letter : ℕ) (name : List ℕ) → Own (reply s) w letter name → Alike s t letter name)

@@ -55,7 +55,7 @@ module _ (ask : Ask) where
   same-mark false true w t h n l xs ys stem p q e = absurd (apart (without w t) (firstCharacter t) h n n l xs ys stem p q e)
   same-mark true false w t h n l xs ys stem p q e = absurd (apart (without w t) (firstCharacter t) h n n l ys xs stem q p (sym e))
 
-  strips-unique : (n : ℕ) → n ≤ allRows → (w : List ℕ) (xs ys : List Strip) (stem : List ℕ) → Suffixed ask n w xs stem → Suffixed ask n w ys stem
+  pub strips-unique : (n : ℕ) → n ≤ allRows → (w : List ℕ) (xs ys : List Strip) (stem : List ℕ) → Suffixed ask n w xs stem → Suffixed ask n w ys stem
       → map textOf xs ≡ map textOf ys → xs ≡ ys
   strips-unique n l w [] [] stem p q e = refl
   strips-unique n l w [] (y ∷ ys) stem p q e = absurd (nil≢cons e)

@@ -54,9 +54,9 @@ overridden Comp kind = ComparisonMarker
 abbrev pub kindOf : Ask → ℕ → AffixKind
 kindOf ask row = overridden (kindTold (ask 0x6B (getD affixes row []))) (groupKind row)
 
--- a segment is a label with its kind
+-- a segment is a label with its kind, and the mark of its strip
 abbrev pub segmentOf : Ask → Strip → Segment
-segmentOf ask x = record { label = x .row; kind = kindOf ask (x .row) }
+segmentOf ask x = record { label = x .row; kind = kindOf ask (x .row); shared = x .isShared }
 
 -- exactly n of xs, filled up with d
 abbrev pub filled : {A : Type 0} → ℕ → A → List A → List A

@@ -3,7 +3,9 @@
 use Prim.Native.Nat.{ℕ, zero, suc, _+_, _-_, _*_, _/_, _%_, _<_, _≤_}
 use native.Mathlib.Omega.{arith}
 use native.Mathlib.Nat.{mul-suc, not-suc-le-zero, le-of-suc-le-suc}
-use mathlib.Core.Path.{_≡_, refl, sym, ap, _∙_}
+use mathlib.Core.Path.{_≡_, refl, sym, ap, ap₂, _∙_}
+use mathlib.Core.Bool.{Bool, true, false}
+use lib.Dec.{ltb}
 use mathlib.Core.List.{List, [], _∷_, _++_, append-assoc, append-nil}
 use lib.ListN.{length, take, drop, getD, set, length-append, length-drop, take-append-drop, drop-of-length-le}
 use lib.Seq.{length-take-le, take-all, take-at, drop-at, drop-drop, take-append-add}
@@ -14,7 +16,7 @@ use Rattle.ranking.specs.declared.Segment.{Segment}
 use Rattle.ranking.specs.declared.Reading.{Reading}
 use Rattle.ranking.specs.Lists.{listLimit}
 use Rattle.ranking.specs.Places.{noReading}
-use Rattle.ranking.specs.Stored.{kindNumber, kindAt, noSegment, twoAt, segmentAt, readingBytes, readingAt, readingWidth}
+use Rattle.ranking.specs.Stored.{kindNumber, markNumber, kindAt, noSegment, segmentBytes, twoAt, segmentAt, readingBytes, readingAt, readingWidth}
 use Rattle.ranking.specs.Kept.{readBack, rowsIn, keptBytes}
 
 kind-read : (k : AffixKind) → kindAt (kindNumber k) ≡ k
@@ -43,11 +45,15 @@ pair-read (x ∷ []) e = absurd (omega arith)
 pair-read (x ∷ y ∷ []) e = refl
 pair-read (x ∷ y ∷ z ∷ xs) e = absurd (omega arith)
 
-segment-read : (x : Segment) → record { label = x .label; kind = kindAt (kindNumber (x .kind)) } ≡ x
-segment-read x = ap (λ (k : AffixKind). record { label = x .label; kind = k }) (kind-read (x .kind))
+mark-read : (b : Bool) → ltb 0 (markNumber b) ≡ b
+mark-read true = refl
+mark-read false = refl
+
+segment-read : (x : Segment) → record { label = x .label; kind = kindAt (kindNumber (x .kind)); shared = ltb 0 (markNumber (x .shared)) } ≡ x
+segment-read x = ap₂ (λ (k : AffixKind) (b : Bool). record { label = x .label; kind = k; shared = b }) (kind-read (x .kind)) (mark-read (x .shared))
 
 abbrev segmentBack : List Segment → ℕ → Segment
-segmentBack xs i = record { label = getD xs i noSegment .label; kind = kindAt (kindNumber (getD xs i noSegment .kind)) }
+segmentBack xs i = record { label = getD xs i noSegment .label; kind = kindAt (kindNumber (getD xs i noSegment .kind)); shared = ltb 0 (markNumber (getD xs i noSegment .shared)) }
 
 four-read : (xs : List Segment) → length xs ≡ 4 → segmentBack xs 0 ∷ segmentBack xs 1 ∷ segmentBack xs 2 ∷ segmentBack xs 3 ∷ [] ≡ xs
 four-read [] e = absurd (omega arith)
@@ -67,25 +73,26 @@ reading-read r rest p s =
     reading-is r (two-read (r .stem)) (two-read (r .root)) (two-read (r .score)) (pair-read (r .prefixes) p) (four-read (r .segments) s)
 
 -- the bytes that are stored are those of the row
-pub reading-bytes : (r : Reading) {a b c d e f j k l m : ℕ} → a ≡ r .stem % 256 → b ≡ r .stem / 256 → c ≡ r .root % 256 → d ≡ r .root / 256
-    → e ≡ r .score % 256 → f ≡ r .score / 256 → j ≡ kindNumber (getD (r .segments) 0 noSegment .kind) → k ≡ kindNumber (getD (r .segments) 1 noSegment .kind)
-    → l ≡ kindNumber (getD (r .segments) 2 noSegment .kind) → m ≡ kindNumber (getD (r .segments) 3 noSegment .kind)
-    → a ∷ b ∷ c ∷ d ∷ e ∷ f ∷ getD (r .prefixes) 0 0 ∷ getD (r .prefixes) 1 0 ∷ getD (r .segments) 0 noSegment .label ∷ j
-    ∷ getD (r .segments) 1 noSegment .label ∷ k ∷ getD (r .segments) 2 noSegment .label ∷ l ∷ getD (r .segments) 3 noSegment .label ∷ m
-    ∷ r .«prefix_count» ∷ r .«suffix_count» ∷ [] ≡ readingBytes r
+pub segment-bytes : (x : Segment) {k m : ℕ} → k ≡ kindNumber (x .kind) → m ≡ markNumber (x .shared) → x .label ∷ k ∷ m ∷ [] ≡ segmentBytes x
+segment-bytes x p q = rw (p, q)
+
+pub reading-bytes : (r : Reading) {a b c d e f : ℕ} {g h i j : List ℕ} → a ≡ r .stem % 256 → b ≡ r .stem / 256 → c ≡ r .root % 256 → d ≡ r .root / 256
+    → e ≡ r .score % 256 → f ≡ r .score / 256 → g ≡ segmentBytes (getD (r .segments) 0 noSegment) → h ≡ segmentBytes (getD (r .segments) 1 noSegment)
+    → i ≡ segmentBytes (getD (r .segments) 2 noSegment) → j ≡ segmentBytes (getD (r .segments) 3 noSegment)
+    → a ∷ b ∷ c ∷ d ∷ e ∷ f ∷ getD (r .prefixes) 0 0 ∷ getD (r .prefixes) 1 0 ∷ (g ++ (h ++ (i ++ (j ++ (r .«prefix_count» ∷ r .«suffix_count» ∷ []))))) ≡ readingBytes r
 reading-bytes r p q s t u v w x y z = rw (p, q, s, t, u, v, w, x, y, z)
 
 -- a reading read part by part
 pub reading-parts : (row : List ℕ) {a b c : ℕ} {d e f g : Segment} → a ≡ twoAt row 0 → b ≡ twoAt row 2 → c ≡ twoAt row 4
-    → d ≡ segmentAt row 8 → e ≡ segmentAt row 10 → f ≡ segmentAt row 12 → g ≡ segmentAt row 14
+    → d ≡ segmentAt row 8 → e ≡ segmentAt row 11 → f ≡ segmentAt row 14 → g ≡ segmentAt row 17
     → record {
       stem = a;
       root = b;
       score = c;
       prefixes = getD row 6 0 ∷ getD row 7 0 ∷ [];
       segments = d ∷ e ∷ f ∷ g ∷ [];
-      «prefix_count» = getD row 16 0;
-      «suffix_count» = getD row 17 0;
+      «prefix_count» = getD row 20 0;
+      «suffix_count» = getD row 21 0;
     } ≡ readingAt row
 reading-parts row p q s t u v w = cc
 
@@ -102,9 +109,9 @@ back-at zero i out d h = absurd (not-suc-le-zero h)
 back-at (suc n) zero out d h = refl
 back-at (suc n) (suc i) out d h =
     let m = mul-suc readingWidth i in
-    let k : 18 + 18 * i ≡ 18 * suc i = omega arith in
+    let k : readingWidth + readingWidth * i ≡ readingWidth * suc i = omega arith in
     back-at n i (drop readingWidth out) d (le-of-suc-le-suc h)
-    ∙ ap (λ (l : List ℕ). readingAt (take readingWidth l)) (drop-drop (18 * i) 18 out ∙ ap (λ (j : ℕ). drop j out) k)
+    ∙ ap (λ (l : List ℕ). readingAt (take readingWidth l)) (drop-drop (readingWidth * i) readingWidth out ∙ ap (λ (j : ℕ). drop j out) k)
 
 back-set : (n i : ℕ) (out row : List ℕ) → i < n → length row ≡ readingWidth → readingWidth * n ≤ length out
     → readBack n (take (readingWidth * i) out ++ (row ++ drop (readingWidth * i + readingWidth) out)) ≡ set (readBack n out) i (readingAt row)
@@ -118,16 +125,16 @@ back-set (suc n) (suc i) out row h l e =
     let z = mul-suc readingWidth n in
     let a = take readingWidth out in
     let b = drop readingWidth out in
-    let rest = take (18 * i) b ++ (row ++ drop (18 * i + 18) b) in
-    let al : length a ≡ 18 = length-take-le readingWidth out (omega arith) in
-    let bl : 18 * n ≤ length b = rw (length-drop 18 out) (omega arith) in
-    let k : 18 * suc i ≡ length a + 18 * i = omega arith in
-    let f : take (18 * suc i) out ≡ a ++ take (18 * i) b =
-    ap (λ (j : ℕ). take j out) k ∙ ap (λ (x : List ℕ). take (length a + 18 * i) x) (sym (take-append-drop 18 out)) ∙ take-append-add a b (18 * i) in
-    let j : 18 + (18 * i + 18) ≡ 18 * suc i + 18 = omega arith in
-    let g : drop (18 * suc i + 18) out ≡ drop (18 * i + 18) b = sym (drop-drop (18 * i + 18) 18 out ∙ ap (λ (q : ℕ). drop q out) j) in
-    let w : take (18 * suc i) out ++ (row ++ drop (18 * suc i + 18) out) ≡ a ++ rest =
-    ap (λ (x : List ℕ). x ++ (row ++ drop (18 * suc i + 18) out)) f ∙ ap (λ (x : List ℕ). (a ++ take (18 * i) b) ++ (row ++ x)) g ∙ append-assoc a (take (18 * i) b) (row ++ drop (18 * i + 18) b) in
+    let rest = take (readingWidth * i) b ++ (row ++ drop (readingWidth * i + readingWidth) b) in
+    let al : length a ≡ readingWidth = length-take-le readingWidth out (omega arith) in
+    let bl : readingWidth * n ≤ length b = rw (length-drop readingWidth out) (omega arith) in
+    let k : readingWidth * suc i ≡ length a + readingWidth * i = omega arith in
+    let f : take (readingWidth * suc i) out ≡ a ++ take (readingWidth * i) b =
+    ap (λ (j : ℕ). take j out) k ∙ ap (λ (x : List ℕ). take (length a + readingWidth * i) x) (sym (take-append-drop readingWidth out)) ∙ take-append-add a b (readingWidth * i) in
+    let j : readingWidth + (readingWidth * i + readingWidth) ≡ readingWidth * suc i + readingWidth = omega arith in
+    let g : drop (readingWidth * suc i + readingWidth) out ≡ drop (readingWidth * i + readingWidth) b = sym (drop-drop (readingWidth * i + readingWidth) readingWidth out ∙ ap (λ (q : ℕ). drop q out) j) in
+    let w : take (readingWidth * suc i) out ++ (row ++ drop (readingWidth * suc i + readingWidth) out) ≡ a ++ rest =
+    ap (λ (x : List ℕ). x ++ (row ++ drop (readingWidth * suc i + readingWidth) out)) f ∙ ap (λ (x : List ℕ). (a ++ take (readingWidth * i) b) ++ (row ++ x)) g ∙ append-assoc a (take (readingWidth * i) b) (row ++ drop (readingWidth * i + readingWidth) b) in
     ap (readBack (suc n)) w
     ∙ ap (λ (x : List ℕ). readingAt x ∷ readBack n (drop readingWidth (a ++ rest))) (take-at a rest readingWidth al)
     ∙ ap (λ (x : List ℕ). readingAt a ∷ readBack n x) (drop-at a rest readingWidth al)

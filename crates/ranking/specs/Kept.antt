@@ -19,7 +19,7 @@ rowsIn out = readBack listLimit out
 
 -- the bytes that such a buffer has
 abbrev pub keptBytes : ℕ
-keptBytes = 1152
+keptBytes = 1408
 
 -- what has been collected: the first n rows, or, for a number past the limit, that there are too many
 unfoldable pub keptOf : List ℕ → ℕ → Rows

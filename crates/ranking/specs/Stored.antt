@@ -1,8 +1,11 @@
--- The row of a reading: how its 18 bytes lie, and the reading that a row gives back. A row lies so in the buffer of the walk and in the
+-- The row of a reading: how its 22 bytes lie, and the reading that a row gives back. A row lies so in the buffer of the walk and in the
 -- buffer that the exported function fills. Assumes nothing.
 use Prim.Native.Nat.{ℕ, zero, suc, _+_, _*_, _/_, _%_}
 use mathlib.Core.List.{List, [], _∷_, _++_}
 use lib.ListN.{getD}
+use lib.Dec.{ltb}
+use mathlib.Core.Bool.{Bool, false}
+use Rattle.runs.specs.Runs.{pick}
 use Rattle.ranking.specs.declared.AffixKind.{AffixKind}
 use Rattle.ranking.specs.declared.AffixKind.the-variants.{Particle, CaseMarker, PluralMarker, Postposition, ComparisonMarker}
 use Rattle.ranking.specs.declared.Segment.{Segment}
@@ -26,17 +29,21 @@ kindNumber ComparisonMarker = 4
 
 -- the blank segment: what stands in a place that is not used
 abbrev pub noSegment : Segment
-noSegment = record { label = 0; kind = Particle }
+noSegment = record { label = 0; kind = Particle; shared = false }
+
+-- 1 for shared, 0 for plain
+abbrev pub markNumber : Bool → ℕ
+markNumber b = pick b 1 0
 
 abbrev pub segmentBytes : Segment → List ℕ
-segmentBytes s = s .label ∷ kindNumber (s .kind) ∷ []
+segmentBytes s = s .label ∷ kindNumber (s .kind) ∷ markNumber (s .shared) ∷ []
 
 -- the n segments of xs from the i-th on
 abbrev pub segmentCells : ℕ → ℕ → List Segment → List ℕ
 segmentCells zero i xs = []
 segmentCells (suc n) i xs = segmentBytes (getD xs i noSegment) ++ segmentCells n (suc i) xs
 
--- stem, root and score, two prefix rows, four segments with row and kind, the two counts
+-- stem, root and score, two prefix rows, four segments with row, kind and mark, the two counts
 abbrev pub readingBytes : Reading → List ℕ
 readingBytes r =
     twoBytes (r .stem) ++ twoBytes (r .root) ++ twoBytes (r .score) ++ cells 2 0 (r .prefixes) ++ segmentCells 4 0 (r .segments)
@@ -44,7 +51,7 @@ readingBytes r =
 
 -- so many bytes
 abbrev pub readingWidth : ℕ
-readingWidth = 18
+readingWidth = 22
 
 -- the kind of each number
 abbrev pub kindAt : ℕ → AffixKind
@@ -55,7 +62,7 @@ abbrev pub twoAt : List ℕ → ℕ → ℕ
 twoAt bytes i = getD bytes i 0 + 256 * getD bytes (i + 1) 0
 
 abbrev pub segmentAt : List ℕ → ℕ → Segment
-segmentAt bytes i = record { label = getD bytes i 0; kind = kindAt (getD bytes (i + 1) 0) }
+segmentAt bytes i = record { label = getD bytes i 0; kind = kindAt (getD bytes (i + 1) 0); shared = ltb 0 (getD bytes (i + 2) 0) }
 
 -- the reading whose row stands at the front
 abbrev pub readingAt : List ℕ → Reading
@@ -64,7 +71,7 @@ readingAt bytes = record {
   root = twoAt bytes 2;
   score = twoAt bytes 4;
   prefixes = getD bytes 6 0 ∷ getD bytes 7 0 ∷ [];
-  segments = segmentAt bytes 8 ∷ segmentAt bytes 10 ∷ segmentAt bytes 12 ∷ segmentAt bytes 14 ∷ [];
-  «prefix_count» = getD bytes 16 0;
-  «suffix_count» = getD bytes 17 0;
+  segments = segmentAt bytes 8 ∷ segmentAt bytes 11 ∷ segmentAt bytes 14 ∷ segmentAt bytes 17 ∷ [];
+  «prefix_count» = getD bytes 20 0;
+  «suffix_count» = getD bytes 21 0;
 }

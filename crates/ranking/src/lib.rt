@@ -26,10 +26,11 @@ pub enum AffixKind {
     ComparisonMarker,
 }
 
-// A suffix: its row in the table of the 25 texts, and its kind.
+// A suffix: its row in the table of the 25 texts, its kind, and whether its first letter is shared with what stands before it.
 pub struct Segment {
     pub label: u8,
     pub kind: AffixKind,
+    pub shared: bool,
 }
 
 // A reading of a word: the stem is the word's first `stem` bytes, and the root what stands in the stem from byte `root` on; prefix
@@ -143,6 +144,7 @@ pub fn blank() -> Segment
     Segment {
         label: 0,
         kind: AffixKind::Particle,
+        shared: false,
     }
 }
 

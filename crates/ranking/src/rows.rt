@@ -1,5 +1,6 @@
 // The row of a reading, of WIDTH bytes, stored and read back. It lies as a struct of C does where the low byte is first: three numbers
-// of 16 bits, stem, root and score; two prefix rows; four pairs of a suffix row and the number of its kind; the two counts.
+// of 16 bits, stem, root and score; two prefix rows; four times a suffix row, the number of its kind and 1 where its first letter is shared, else 0;
+// the two counts.
 use crate::AffixKind;
 use crate::LIMIT;
 use crate::Reading;
@@ -11,13 +12,13 @@ ghost use Prim.Native.Nat.{_+_, _*_, _/_, _%_, _≤_, _<_};
 ghost use lib.ListN.{length, drop, getD, set};
 ghost use Rattle.ranking.specs.Lists.{listLimit};
 ghost use Rattle.ranking.specs.Places.{noReading};
-ghost use Rattle.ranking.specs.Stored.{kindNumber, kindAt, twoAt, segmentAt, readingBytes, readingAt, readingWidth};
+ghost use Rattle.ranking.specs.Stored.{kindNumber, markNumber, kindAt, twoAt, segmentAt, readingBytes, readingAt, readingWidth};
 ghost use Rattle.ranking.specs.Kept.{rowsIn, keptBytes};
 
-pub const WIDTH: usize = 18;
+pub const WIDTH: usize = 22;
 
 // The bytes of a buffer with room for a list.
-pub const KEPT: usize = 1152;
+pub const KEPT: usize = 1408;
 
 fn low(x: u16) -> u8
     ensures { λ r. ⌜ r ≡ x % 256 ⌝ }
@@ -75,6 +76,15 @@ fn kind_at(n: u8) -> AffixKind
     AffixKind::Particle
 }
 
+fn mark_number(shared: bool) -> u8
+    ensures { λ r. ⌜ r ≡ markNumber shared ⌝ }
+{
+    if shared {
+        return 1;
+    }
+    0
+}
+
 // A reading, at the front of the buffer.
 pub fn put_reading(r: Reading, out: &mut [u8])
     requires { ⌜ readingWidth ≤ length (now out) ⌝ }
@@ -101,12 +111,16 @@ pub fn put_reading(r: Reading, out: &mut [u8])
         prefixes[1],
         first.label,
         kind_number(first_kind),
+        mark_number(first.shared),
         second.label,
         kind_number(second_kind),
+        mark_number(second.shared),
         third.label,
         kind_number(third_kind),
+        mark_number(third.shared),
         fourth.label,
         kind_number(fourth_kind),
+        mark_number(fourth.shared),
         r.prefix_count,
         r.suffix_count,
     ];
@@ -115,13 +129,18 @@ pub fn put_reading(r: Reading, out: &mut [u8])
 
 // The segment that stands from the i-th byte on.
 fn segment_at(row: &[u8], i: usize) -> Segment
-    requires { ⌜ i + 1 < length (now row) ⌝ }
+    requires { ⌜ i + 2 < length (now row) ⌝ }
     ensures { λ r. ⌜ r ≡ segmentAt (now (row .entry)) i ⌝ }
 {
     let label = row[i];
     let number = row[i + 1];
+    let shared = 0 < row[i + 2];
     let kind = kind_at(number);
-    Segment { label, kind }
+    Segment {
+        label,
+        kind,
+        shared,
+    }
 }
 
 // The reading whose row stands at the front.
@@ -133,17 +152,17 @@ pub fn get_reading(row: &[u8]) -> Reading
     let root = two_at(row, 2);
     let score = two_at(row, 4);
     let first = segment_at(row, 8);
-    let second = segment_at(row, 10);
-    let third = segment_at(row, 12);
-    let fourth = segment_at(row, 14);
+    let second = segment_at(row, 11);
+    let third = segment_at(row, 14);
+    let fourth = segment_at(row, 17);
     Reading {
         stem,
         root,
         score,
         prefixes: [row[6], row[7]],
         segments: [first, second, third, fourth],
-        prefix_count: row[16],
-        suffix_count: row[17],
+        prefix_count: row[20],
+        suffix_count: row[21],
     }
 }
 
@@ -162,6 +181,6 @@ pub(crate) fn set_row(r: Reading, i: usize, out: &mut [u8])
     requires { ⌜ (keptBytes ≤ length (now out)) × (i < listLimit) ⌝ }
     ensures { λ _. ⌜ rowsIn (now (out .exit)) ≡ set (rowsIn (now (out .entry))) i r ⌝ }
 {
-    let from = WIDTH * i;
-    put_reading(r, &mut out[from..]);
+    let at = WIDTH * i;
+    put_reading(r, &mut out[at..]);
 }

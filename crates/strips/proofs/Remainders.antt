@@ -1,9 +1,9 @@
 -- What a remainder is: a front part of the piece that the suffix makes whole again, and UTF-8 where piece and suffix are; and the
 -- same of what a prefix form leaves. Cited by every crate that strips. Assumes nothing.
-use mathlib.Core.Path.{_≡_, refl, ap, sym, _∙_}
+use mathlib.Core.Path.{_≡_, refl, ap, ap₂, sym, _∙_}
 use mathlib.Core.Bool.{Bool, true, false, _&&_}
 use mathlib.Core.Logic.{⊎-elim}
-use mathlib.Core.List.{List, [], _∷_, _++_, append-assoc, List·Memᴰ, List·Memᴰ·cases-cons, List·Memᴰ·eq-of-singleton, List·Memᴰ·not-nil}
+use mathlib.Core.List.{List, [], _∷_, _++_, map, map-append, append-assoc, List·Memᴰ, List·Memᴰ·cases-cons, List·Memᴰ·eq-of-singleton, List·Memᴰ·not-nil}
 use Prim.Native.Nat.{ℕ, _+_, _-_, _≤_, _<_}
 use native.Mathlib.Omega.{arith}
 use lib.ListN.{length, take, drop, take-append-drop}
@@ -18,7 +18,7 @@ use Rattle.text.specs.Utf8.{isUtf8}
 use Rattle.text.specs.Characters.{chars}
 use Rattle.strips.specs.declared.suffix.Rests.{Rests}
 use Rattle.strips.specs.declared.prefix.Rest.the-variants.{Nothing, From}
-use Rattle.strips.specs.Suffix.{firstLength, firstCharacter, sheds, isLong, without, plain, shared, remainders, plainLength, sharedLength, restsOf, fronts}
+use Rattle.strips.specs.Suffix.{firstLength, firstCharacter, sheds, isLong, without, plain, shared, remainders, plainLength, sharedLength, restsOf, fronts, Marked, marked, markedFronts}
 use Rattle.strips.specs.Prefix.{leastAfter, after, leaves, prefixRemainder, restOf, behind}
 use Rattle.strips.proofs.Returns.{begins-length}
 use Rattle.strips.proofs.Parts.{utf8-front, utf8-back, utf8-join}
@@ -105,6 +105,32 @@ rests-say piece suffix = go (sheds piece suffix) (isLong suffix) refl
     go true true e = ap (λ (t : List ℕ). without piece suffix ∷ t ∷ []) (sym (shared-front piece suffix e))
     go true false e = refl
     go false b e = refl
+
+-- and the marked ones
+pub rests-marked : (piece suffix : List ℕ) → markedFronts piece (restsOf piece suffix) ≡ marked piece suffix
+unfolding restsOf marked plain shared
+rests-marked piece suffix = go (sheds piece suffix) (isLong suffix) refl
+  where
+    go : (a b : Bool) → sheds piece suffix ≡ a
+        → markedFronts piece (rests piece suffix a b)
+        ≡ map (λ (l : List ℕ). record { left = l; isShared = false }) (pick a (without piece suffix ∷ []) [])
+        ++ map (λ (l : List ℕ). record { left = l; isShared = true }) (pick (a && b) ((without piece suffix ++ firstCharacter suffix) ∷ []) [])
+    go true true e =
+        ap (λ (t : List ℕ). record { left = without piece suffix; isShared = false } ∷ record { left = t; isShared = true } ∷ []) (sym (shared-front piece suffix e))
+    go true false e = refl
+    go false b e = refl
+
+unmark : (b : Bool) (ls : List (List ℕ)) → map (λ (x : Marked). x .left) (map (λ (l : List ℕ). record { left = l; isShared = b }) ls) ≡ ls
+unmark b [] = refl
+unmark b (l ∷ ls) = ap (λ (t : List (List ℕ)). l ∷ t) (unmark b ls)
+
+-- without their marks they are the remainders
+pub marks-off : (piece suffix : List ℕ) → map (λ (x : Marked). x .left) (marked piece suffix) ≡ remainders piece suffix
+unfolding marked remainders
+marks-off piece suffix =
+    map-append (λ (x : Marked). x .left) (map (λ (l : List ℕ). record { left = l; isShared = false }) (plain piece suffix))
+    (map (λ (l : List ℕ). record { left = l; isShared = true }) (shared piece suffix))
+    ∙ ap₂ (λ (a b : List (List ℕ)). a ++ b) (unmark false (plain piece suffix)) (unmark true (shared piece suffix))
 
 -- they lie inside the piece, so that it can be cut by them
 pub record Inside (piece : List ℕ) (r : Rests) : Type 0 where

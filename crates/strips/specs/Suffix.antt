@@ -1,8 +1,8 @@
 -- The remainders of a piece under a suffix (document 01, "Strips, readings, rank"), and how the code says them. Readings, decompose,
 -- candidates and origin all strip by these. Assumes nothing.
 use Prim.Native.Nat.{ℕ, suc, _+_, _-_}
-use mathlib.Core.Bool.{Bool, not, _&&_}
-use mathlib.Core.List.{List, [], _∷_, _++_}
+use mathlib.Core.Bool.{Bool, true, false, not, _&&_}
+use mathlib.Core.List.{List, [], _∷_, _++_, map}
 use lib.ListN.{length, take}
 use lib.Dec.{eqb, ltb}
 use Rattle.runs.specs.Runs.{pick, endsIn}
@@ -47,6 +47,17 @@ shared piece suffix = pick (sheds piece suffix && isLong suffix) ((without piece
 unfoldable pub remainders : List ℕ → List ℕ → List (List ℕ)
 remainders piece suffix = plain piece suffix ++ shared piece suffix
 
+-- a remainder with its mark: whether the suffix's first character is shared
+pub record Marked : Type 0 where
+  pub left : List ℕ
+  pub isShared : Bool
+
+-- the marked remainders, as the single strip says them; without their marks they are the remainders (proofs/Remainders.marks-off)
+unfoldable pub marked : List ℕ → List ℕ → List Marked
+marked piece suffix =
+    map (λ left. record { left = left; isShared = false }) (plain piece suffix)
+    ++ map (λ left. record { left = left; isShared = true }) (shared piece suffix)
+
 -- each is a front part of the piece, so that its length says it
 abbrev pub plainLength : List ℕ → List ℕ → ℕ
 plainLength piece suffix = length piece - length suffix
@@ -66,6 +77,12 @@ restsOf piece suffix =
 -- the parts of the piece that such lengths say
 abbrev pub fronts : List ℕ → Rests → List (List ℕ)
 fronts piece r = pick (ltb 0 (r .count)) (take (r .plain) piece ∷ []) [] ++ pick (ltb 1 (r .count)) (take (r .shared) piece ∷ []) []
+
+-- the same, each with its mark
+abbrev pub markedFronts : List ℕ → Rests → List Marked
+markedFronts piece r =
+    pick (ltb 0 (r .count)) (record { left = take (r .plain) piece; isShared = false } ∷ []) []
+    ++ pick (ltb 1 (r .count)) (record { left = take (r .shared) piece; isShared = true } ∷ []) []
 
 -- the extra rule for ई and ी: a piece whose own `w` line has p (a pronoun) gives none unless that line has e (it is spelled out)
 unfoldable pub keepsPronoun : Bool → Bool → List ℕ → Bool

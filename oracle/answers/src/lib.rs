@@ -1,6 +1,7 @@
 //! The source's answers for a word and a sheet, in the text form that oracle/README.md describes.
 
 mod lines;
+mod marks;
 
 pub use lines::{Each, best_candidate, best_reading};
 

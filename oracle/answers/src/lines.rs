@@ -1,5 +1,6 @@
 //! The lines of an answer. Each ends in 0A; words stand in them byte for byte.
 
+use crate::marks::marks;
 use acceptance::{Refusal, check_count};
 use shabda::{AffixAnalysis, AffixKind, AffixSegment, OriginSource, RootCandidate};
 use varnavinyas_types::Origin;
@@ -84,7 +85,8 @@ fn list(readings: &[AffixAnalysis]) -> String {
 }
 
 fn row(reading: &AffixAnalysis) -> String {
-    let segments: Vec<String> = reading.suffix_segments.iter().map(segment).collect();
+    let marks = marks(reading);
+    let segments: Vec<String> = reading.suffix_segments.iter().zip(marks).map(segment).collect();
     format!(
         "(r {} {} ({}) ({}) {})",
         reading.stem,
@@ -95,7 +97,7 @@ fn row(reading: &AffixAnalysis) -> String {
     )
 }
 
-fn segment(segment: &AffixSegment) -> String {
+fn segment((segment, shared): (&AffixSegment, bool)) -> String {
     let kind = match segment.kind {
         AffixKind::Particle => "particle",
         AffixKind::CaseMarker => "case",
@@ -104,7 +106,8 @@ fn segment(segment: &AffixSegment) -> String {
         AffixKind::ComparisonMarker => "comp",
         AffixKind::Prefix => unreachable!("no suffix segment is a prefix"),
     };
-    format!("({} {kind})", segment.text)
+    let shared = if shared { " shared" } else { "" };
+    format!("({} {kind}{shared})", segment.text)
 }
 
 /// `has_supported_analysis`, which gives 7 where the list does. The source makes the list once

@@ -5,6 +5,18 @@ mod common;
 use common::*;
 
 #[test]
+fn shared_letters() {
+    assert_eq!(
+        readings("घरले", &["(w घर (wh))", "(w घरल (w))"]),
+        "(list 2)\n(r घर घर () ((ले case)) 279)\n(r घरल घरल () ((ले case shared)) 129)\n"
+    );
+    assert_eq!(
+        readings("घरतिरे", &["(w घरत (w))"]),
+        "(list 1)\n(r घरत घरत () ((तिर case shared) (रे particle shared)) 146)\n"
+    );
+}
+
+#[test]
 fn the_listing() {
     assert_eq!(readings("घरले", &["(w घर (wh))"]), "(list 1)\n(r घर घर () ((ले case)) 279)\n");
 }

@@ -111,7 +111,7 @@ fn is_after_form(word: &[u8], row: &[u8; CANDIDATE_ROW]) -> bool {
 fn readings(functions: &Functions, word: &[u8], sheet: &[u8]) -> [String; 2] {
     let ask = |out: &mut [u8]| (functions.readings)(word, sheet, out);
     let of_row = |row: &[u8; READING_ROW]| {
-        let prefixes = usize::from(row[16]);
+        let prefixes = usize::from(row[20]);
         let root = usize::from(u16::from_le_bytes([row[2], row[3]]));
         Reading::of_row(word, row).filter(|_| are_forms(&row[6..6 + prefixes], &word[..root]))
     };

@@ -31,7 +31,10 @@ pub fn listing(readings: &[Reading]) -> String {
 }
 
 fn row(reading: &Reading) -> String {
-    let segment = |segment: &AffixSegment| format!("({} {})", segment.text, segment.kind.as_str());
+    let segment = |segment: &AffixSegment| {
+        let shared = if segment.shared { " shared" } else { "" };
+        format!("({} {}{shared})", segment.text, segment.kind.as_str())
+    };
     let segments: Vec<String> = reading.suffix_segments.iter().map(segment).collect();
     format!(
         "(r {} {} ({}) ({}) {})",

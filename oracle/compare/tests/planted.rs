@@ -198,7 +198,7 @@ fn a_byte_past_the_answer() {
     all_see([
         (READINGS, |word, sheet, out| {
             let code = raw::readings(word, sheet, out);
-            past(code, 18 * raw::above(code), out)
+            past(code, raw::READING_ROW * raw::above(code), out)
         }),
         (LISTING, |word, sheet, out| {
             let code = raw::listing(word, sheet, out);
@@ -284,7 +284,9 @@ fn a_byte_of_the_answer_not_written() {
         code
     }
     all_see([
-        (READINGS, |word, sheet, out| kept(raw::readings, |code| 18 * raw::above(code), word, sheet, out)),
+        (READINGS, |word, sheet, out| {
+            kept(raw::readings, |code| raw::READING_ROW * raw::above(code), word, sheet, out)
+        }),
         (LISTING, |word, sheet, out| kept(raw::listing, raw::above, word, sheet, out)),
         (CANDIDATES, |word, sheet, out| kept(raw::candidates, |code| 33 * raw::above(code), word, sheet, out)),
         (DECOMPOSITION, |word, sheet, out| kept(raw::decompose, |_| 33, word, sheet, out)),
@@ -318,8 +320,8 @@ fn the_rows_that_fit_written_before_a_refusal() {
         code
     }
     for readings in [
-        |word, sheet, out| fitting::<18>(raw::readings, false, word, sheet, out),
-        |word, sheet, out| fitting::<18>(raw::readings, true, word, sheet, out),
+        |word, sheet, out| fitting::<{ raw::READING_ROW }>(raw::readings, false, word, sheet, out),
+        |word, sheet, out| fitting::<{ raw::READING_ROW }>(raw::readings, true, word, sheet, out),
     ] as [Fill; 2]
     {
         assert_eq!(seen(with(READINGS, readings)), READINGS);
@@ -344,7 +346,7 @@ fn one_row_for_another() {
         }
         code
     }
-    let readings: Fill = |word, sheet, out| swapped::<18>(raw::readings(word, sheet, out), out);
+    let readings: Fill = |word, sheet, out| swapped::<{ raw::READING_ROW }>(raw::readings(word, sheet, out), out);
     assert_eq!(seen(with(READINGS, readings)), ["readings"]);
     let candidates: Fill = |word, sheet, out| swapped::<33>(raw::candidates(word, sheet, out), out);
     assert_eq!(seen(with(CANDIDATES, candidates)), ["candidates"]);
@@ -363,7 +365,7 @@ fn a_row_of_the_same_label() {
     }
     let readings: Fill = |word, sheet, out| {
         let code = raw::readings(word, sheet, out);
-        other_form(code, (0..raw::above(code)).map(|row| 18 * row + 6), out)
+        other_form(code, (0..raw::above(code)).map(|row| raw::READING_ROW * row + 6), out)
     };
     assert_eq!(seen(with(READINGS, readings)), READINGS);
     let candidates: Fill = |word, sheet, out| {
@@ -387,7 +389,7 @@ fn rows_changed<const ROW: usize>(code: u64, count: usize, out: &mut [u8], chang
     code
 }
 
-fn readings_changed(word: &[u8], sheet: &[u8], out: &mut [u8], change: fn(&mut [u8; 18])) -> u64 {
+fn readings_changed(word: &[u8], sheet: &[u8], out: &mut [u8], change: fn(&mut [u8; raw::READING_ROW])) -> u64 {
     let code = raw::readings(word, sheet, out);
     rows_changed(code, raw::above(code), out, change)
 }
@@ -422,11 +424,26 @@ fn a_wrong_kind() {
 }
 
 #[test]
+fn a_wrong_mark() {
+    // A shared letter as plain and a plain one as shared, nearest the stem.
+    let plants: [Fill; 2] = [
+        |word, sheet, out| readings_changed(word, sheet, out, |row| byte(&mut row[10], 1, 0)),
+        |word, sheet, out| readings_changed(word, sheet, out, |row| row[10] |= u8::from(row[21] > 0)),
+    ];
+    for plant in plants {
+        assert_eq!(seen(with(READINGS, plant)), READINGS);
+    }
+    // A shared letter behind another suffix as plain, which no best reading of these cases has.
+    let behind: Fill = |word, sheet, out| readings_changed(word, sheet, out, |row| byte(&mut row[13], 1, 0));
+    assert_eq!(seen(with(READINGS, behind)), ["readings"]);
+}
+
+#[test]
 fn a_wrong_suffix_row() {
     // को as मा nearest the stem, क्यारे as पनि furthest from it.
     let readings: [Fill; 2] = [
         |word, sheet, out| readings_changed(word, sheet, out, |row| byte(&mut row[8], 16, 17)),
-        |word, sheet, out| readings_changed(word, sheet, out, |row| byte(&mut row[14], 18, 19)),
+        |word, sheet, out| readings_changed(word, sheet, out, |row| byte(&mut row[17], 18, 19)),
     ];
     for plant in readings {
         assert_eq!(seen(with(READINGS, plant)), READINGS);

@@ -198,7 +198,7 @@ module _ {M : Type 1} (𝓤 : URA M) (H : Heap 𝓤) (A : Atoms 𝓤) (W : Given
         -- the place of `out[i]`
         assigns ! (bin ! (load ! (from ! (stop !)) (look ! 1 refl)) (lit ! tt) (record { fits = product-fits })) (from ! (stop !)) (init ! 4 refl (tt, record { fits = product-fits })) $
         assigns ! (bin ! (load ! (from ! (fld ! refl (stop !))) (look-in ! 6 (sub ! 0 refl (whole !)))) (load ! (from ! (stop !)) (look ! 4 refl)) tt) (from ! (stop !)) (init ! 5 refl (tt, tt)) $
-        rewrite ! 5 (λ (p : ℕ). ‵ (fat fullShare tyPtr l₈ 0 (vptr b p))) (sym (place-is 18 o (i .0))) refl $
+        rewrite ! 5 (λ (p : ℕ). ‵ (fat fullShare tyPtr l₈ 0 (vptr b p))) (sym (place-is 22 o (i .0))) refl $
         -- the element is taken out of the slice, stored to, and put back
         elem-out ! R.the-row (Is R.the-row) (shows 𝓤 H A R.the-row) (LL.vals R.the-type R′.the-laws) (LL.tells R.the-type R′.the-laws) fullShare (at (i .0)) (i .0) noReading b o within (λ _.
         assigns ! (of-opd ! (load ! (from ! (stop !)) (look ! 4 refl))) (from ! (hop ! (look ! 7 refl) (stop !))) (store-raw ! 0 refl (row-typed r w is)) $
@@ -218,7 +218,7 @@ module _ {M : Type 1} (𝓤 : URA M) (H : Heap 𝓤) (A : Atoms 𝓤) (W : Given
         next-fits : i .0 + 1 < 2 ^ 64
         next-fits = omega (arith, less, n-fits)
 
-        product-fits : i .0 * 18 < 2 ^ 64
+        product-fits : i .0 * 22 < 2 ^ 64
         product-fits = omega (arith, less, n-few)
 
         within : i .0 < length (at (i .0))

@@ -6,7 +6,7 @@ use native.Mathlib.Omega.{arith}
 use borrow.Fn.Kinds.{In}
 use borrow.Fn.PlainCycle.{Measures, is, falls, and}
 use mathlib.Core.Path.{_≡_, refl, sym, ap, subst, _∙_}
-use mathlib.Core.Bool.{false}
+use mathlib.Core.Bool.{Bool, true, false}
 use mathlib.Core.List.{List, [], _∷_}
 use lib.ListN.{length, take, getD}
 use lib.Seq.{length-take-le}
@@ -71,10 +71,10 @@ below-claims t = (
   suffix-rests-reads.Learnt,
   kind-at-reads.Asked,
   kind-at-reads.Learnt,
-  pushed-reads.Asked,
-  pushed-reads.Learnt,
   rows-after-reads.Asked,
   rows-after-reads.Learnt,
+  pushed-reads.Asked,
+  pushed-reads.Learnt,
   visit-below t,
   visit.Post,
 )
@@ -147,41 +147,50 @@ below-returns t c =
 below-kind-at-requires : (t : ℕ) → below-lts.Need-kind-at-requires (below-claims t) (below-at t) below.Post
 below-kind-at-requires t c κs = let a = c .before .before .before .before .before .before .before .before .before .before .before .before .before .before in (a .pre .1 .0 .indexed, a .pre .1 .0 .texts-laid, a .pre .1 .4)
 
-below-pushed-requires : (t : ℕ) → below-lts.Need-pushed-requires (below-claims t) (below-at t) below.Post
-below-pushed-requires t c κs = c .before .before .before .before .before .before .before .before .before .before .before .before .before .before .before .pre .1 .3
-
 below-rows-after-requires : (t : ℕ) → below-lts.Need-rows-after-requires (below-claims t) (below-at t) below.Post
 below-rows-after-requires t c κs = tt
 
--- the chain with the row's suffix, and the rows that may come next
+below-pushed-requires : (t : ℕ) → below-lts.Need-pushed-requires (below-claims t) (below-at t) below.Post
+below-pushed-requires t c κs = c .before .before .before .before .before .before .before .before .before .before .before .before .before .before .before .before .pre .1 .3
+
+-- the rows that may come next, and the chain with the row's suffix, marked plain or shared
 module _ (t : ℕ) (c : below-lts.After-rows-after (below-claims t) (below-at t) below.Post) where
   abbrev strip : BelowRests t
-  strip = c .before .before .before .before .before
+  strip = c .before .before .before .before
 
   abbrev begun : BelowStart t
   begun = start t strip
-
-  pushed-is : c .before .pushed .result ≡ pushedOf (begun .args .at .chain) (segmentOf (reply (begun .args .sheet .now)) (record { row = begun .args .k; isShared = false }))
-  pushed-is = c .before .pushed .ensures ∙ ap (λ (x : AffixKind). pushedOf (begun .args .at .chain) (record { label = begun .args .k; kind = x })) (c .before .before .kind-at .ensures)
 
   -- the readings of what is left, with one strip fewer to come
   abbrev deeper : Chain → ℕ → List ℕ → List Reading
   deeper = pieceWalk (3 - begun .args .at .chain .count) (reply (begun .args .sheet .now)) (begun .args .surface)
 
-  one-fewer : (left : List ℕ) → pieceWalk (4 - c .before .pushed .result .count) (reply (begun .args .sheet .now)) (begun .args .surface) (c .before .pushed .result) (c .rows-after .result) left
-      ≡ deeper (c .before .pushed .result) (c .rows-after .result) left
-  one-fewer left =
-      let n : 4 - c .before .pushed .result .count ≡ 3 - begun .args .at .chain .count = omega (arith, ap (λ (x : Chain). x .count) pushed-is) in
-      ap (λ (d : ℕ). pieceWalk d (reply (begun .args .sheet .now)) (begun .args .surface) (c .before .pushed .result) (c .rows-after .result) left) n
+  abbrev pushedAs : Bool → Chain
+  pushedAs b = pushedOf (begun .args .at .chain) (segmentOf (reply (begun .args .sheet .now)) (record { row = begun .args .k; isShared = b }))
 
-  pushed-count : c .before .pushed .result .count ≡ begun .args .at .chain .count + 1
-  pushed-count = ap (λ (x : Chain). x .count) pushed-is
+  module _ (b : Bool) (next : Chain)
+      (e : next ≡ pushedOf (begun .args .at .chain) (record { label = begun .args .k; kind = c .before .kind-at .result; shared = b })) where
+    pushed-is : next ≡ pushedAs b
+    pushed-is = e ∙ ap (λ (x : AffixKind). pushedOf (begun .args .at .chain) (record { label = begun .args .k; kind = x; shared = b })) (c .before .kind-at .ensures)
+
+    pushed-count : next .count ≡ begun .args .at .chain .count + 1
+    pushed-count = ap (λ (x : Chain). x .count) pushed-is
+
+    -- a visit of what is left, as the walk says it
+    visited : {x : Rows} (y : Rows) (left : List ℕ)
+        → (let a = begun .args in x ≡ plusAll (a .word .now) y (pieceWalk (4 - next .count) (reply (a .sheet .now)) (a .surface) next (c .rows-after .result) left))
+        → let a = begun .args in x ≡ plusAll (a .word .now) y (deeper next (c .rows-after .result) left)
+    visited y left p =
+        let a = begun .args in
+        let n : 4 - next .count ≡ 3 - a .at .chain .count = omega (arith, pushed-count) in
+        p ∙ ap (λ (d : ℕ). plusAll (a .word .now) y (pieceWalk d (reply (a .sheet .now)) (a .surface) next (c .rows-after .result) left)) n
 
 below-visit-requires : (t : ℕ) → below-lts.Need-visit-requires (below-claims t) (below-at t) below.Post
 below-visit-requires t c κs =
-    let b = c .before in
+    let p = c .before in
+    let b = p .before in
     let a = begun t b in
-    let n = pushed-count t b in
+    let n = pushed-count t b false _ (p .pushed .ensures) in
     (omega (arith, a .pre .0, a .pre .1 .3), (a .pre .1 .0, omega (arith, plain-in t (strip t b), a .pre .1 .1), a .pre .1 .2, omega (arith, a .pre .1 .3), omega (arith, b .rows-after .ensures .1), a .pre .1 .5))
 
 below-same-length : (t : ℕ) → below-lts.Need-same-length (below-claims t) (below-at t) below.Post
@@ -190,15 +199,13 @@ below-same-length t c = search needs
 below-same-length-2 : (t : ℕ) → below-lts.Need-same-length-2 (below-claims t) (below-at t) below.Post
 below-same-length-2 t c = search needs
 
--- what the plain remainder adds, seen from behind its visit
+-- where the plain suffix is pushed and the rows are known, seen from behind the plain remainder's visit
 module _ (t : ℕ) (v : below-lts.After-visit (below-claims t) (below-at t) below.Post) where
-  abbrev there : below-lts.After-rows-after (below-claims t) (below-at t) below.Post
-  there = v .before .before
+  abbrev at-push : below-lts.After-pushed (below-claims t) (below-at t) below.Post
+  at-push = v .before .before
 
-  -- a visit of what is left, as the walk says it
-  visited : {x : Rows} (y : Rows) (left : List ℕ) → (let a = begun t there .args in x ≡ plusAll (a .word .now) y (pieceWalk (4 - there .before .pushed .result .count) (reply (a .sheet .now)) (a .surface) (there .before .pushed .result) (there .rows-after .result) left))
-      → let a = begun t there .args in x ≡ plusAll (a .word .now) y (deeper t there (there .before .pushed .result) (there .rows-after .result) left)
-  visited y left e = e ∙ ap (plusAll (begun t there .args .word .now) y) (one-fewer t there left)
+  abbrev there : below-lts.After-rows-after (below-claims t) (below-at t) below.Post
+  there = at-push .before
 
 below-returns-2 : (t : ℕ) → below-lts.Need-returns-2 (below-claims t) (below-at t) below.Post
 below-returns-2 t c =
@@ -206,32 +213,40 @@ below-returns-2 t c =
     let n = there t v in
     let r = strip t n in
     let a = begun t n .args in
-    let l = left-are t r .1 (c .if2 .taken) in (
-      row-plain (a .word .now) (piece t r) (deeper t n) (reply (a .sheet .now)) (a .at .chain) (a .k) (keptOf (a .out .now) (a .n)) (n .before .pushed .result) (n .rows-after .result) (pushed-is t n) (n .rows-after .ensures .0) _ _
-          (l .0 ∙ shorter (a .word .now) (r .suffix-rests .result .plain) (a .at .end) (plain-in t r)) (visited t v _ _ (v .visit .ensures .0)) (l .1),
+    let l = left-are t r .1 (c .if2 .taken) in
+    let p = at-push t v .pushed .ensures in (
+      row-plain (a .word .now) (piece t r) (deeper t n) (reply (a .sheet .now)) (a .at .chain) (a .k) (keptOf (a .out .now) (a .n)) (at-push t v .pushed .result) (n .rows-after .result) (pushed-is t n false _ p) (n .rows-after .ensures .0) _ _
+          (l .0 ∙ shorter (a .word .now) (r .suffix-rests .result .plain) (a .at .end) (plain-in t r)) (visited t n false _ p _ _ (v .visit .ensures .0)) (l .1),
       v .visit .ensures .1,
     )
 
+below-pushed-requires-2 : (t : ℕ) → below-lts.Need-pushed-requires-2 (below-claims t) (below-at t) below.Post
+below-pushed-requires-2 t c κs = begun t (there t (c .before .before .before .before)) .pre .1 .3
+
 below-visit-requires-2 : (t : ℕ) → below-lts.Need-visit-requires-2 (below-claims t) (below-at t) below.Post
 below-visit-requires-2 t c κs =
-    let v = c .before .before .before .before .before in
+    let p = c .before in
+    let k = p .before .before .before in
+    let v = k .before .before in
     let n = there t v in
     let a = begun t n in
-    let q = pushed-count t n in
-    (omega (arith, a .pre .0, a .pre .1 .3), (a .pre .1 .0, omega (arith, shared-in t (strip t n), a .pre .1 .1), a .pre .1 .2, omega (arith, a .pre .1 .3), omega (arith, n .rows-after .ensures .1), (search needs, v .visit .ensures .1)))
+    let q = pushed-count t n true _ (p .pushed2 .ensures) in
+    (omega (arith, a .pre .0, a .pre .1 .3), (a .pre .1 .0, omega (arith, shared-in t (strip t n), a .pre .1 .1), a .pre .1 .2, omega (arith, a .pre .1 .3), omega (arith, n .rows-after .ensures .1), (search (needs, k .slice-known2 .given, k .before .out .given, a .pre .1 .5 .0), v .visit .ensures .1)))
 
 below-returns-3 : (t : ℕ) → below-lts.Need-returns-3 (below-claims t) (below-at t) below.Post
 below-returns-3 t c =
     let u = c .before .before in
-    let e = u .before .before in
+    let m = u .before .before in
+    let e = m .before in
     let v = e .before .before .before .before in
     let n = there t v in
     let r = strip t n in
     let a = begun t n .args in
-    let l = left-are t r .2 (n .before .before .before .if1 .left) (e .if2 .left) in (
-      row-both (a .word .now) (piece t r) (deeper t n) (reply (a .sheet .now)) (a .at .chain) (a .k) (keptOf (a .out .now) (a .n)) (n .before .pushed .result) (n .rows-after .result) (pushed-is t n) (n .rows-after .ensures .0) _ _
-          (l .0 ∙ shorter (a .word .now) (r .suffix-rests .result .plain) (a .at .end) (plain-in t r)) (visited t v _ _ (v .visit .ensures .0))
-          _ _ (l .1 ∙ shorter (a .word .now) (r .suffix-rests .result .shared) (a .at .end) (shared-in t r)) (visited t v _ _ (u .visit2 .ensures .0)),
+    let l = left-are t r .2 (n .before .before .if1 .left) (e .if2 .left) in
+    let p = at-push t v .pushed .ensures in (
+      row-both (a .word .now) (piece t r) (deeper t n) (reply (a .sheet .now)) (a .at .chain) (a .k) (keptOf (a .out .now) (a .n)) (at-push t v .pushed .result) (n .rows-after .result) (pushed-is t n false _ p) (n .rows-after .ensures .0) _ _
+          (l .0 ∙ shorter (a .word .now) (r .suffix-rests .result .plain) (a .at .end) (plain-in t r)) (visited t n false _ p _ _ (v .visit .ensures .0))
+          (m .pushed2 .result) (pushed-is t n true _ (m .pushed2 .ensures)) _ _ (l .1 ∙ shorter (a .word .now) (r .suffix-rests .result .shared) (a .at .end) (shared-in t r)) (visited t n true _ (m .pushed2 .ensures) _ _ (u .visit2 .ensures .0)),
       u .visit2 .ensures .1,
     )
 
@@ -363,8 +378,8 @@ pub +below+visit-spec : {M : Type 1} → statement M
     close μ-below μ-visit
     (λ t.
     below-lts.spec (below-claims t) (below-at t) below.Post (below-slice-aggregate-suffix-rests t) (below-row-requires t) (below-suffix-rests-requires t)
-    (below-returns t) (below-kind-at-requires t) (below-pushed-requires t) (below-rows-after-requires t) (below-visit-requires t) (below-same-length t)
-    (below-returns-2 t) (below-visit-requires-2 t) (below-same-length-2 t) (below-returns-3 t))
+    (below-returns t) (below-kind-at-requires t) (below-rows-after-requires t) (below-pushed-requires t) (below-visit-requires t) (below-same-length t)
+    (below-returns-2 t) (below-pushed-requires-2 t) (below-visit-requires-2 t) (below-same-length-2 t) (below-returns-3 t))
     λ t.
     visit-lts.spec (visit-claims t) (visit-at t) visit.Post visit-Inv-loop visit-μ-loop (visit-slice-aggregate-has-supported-progressive-form t)
     (visit-has-supported-progressive-form-requires t) (visit-with-stem-requires t) (visit-same-length t) (visit-returns t) (visit-same-length-2 t)

@@ -1,4 +1,4 @@
--- `rows::put_segment` meets its contract: five texts, one after the other. Assumes nothing.
+-- `rows::put_segment` meets its contract: six texts, one after the other. Assumes nothing.
 use mathlib.Core.Path.{refl}
 use native.Mathlib.Omega.{arith}
 use Rattle.tables.proofs.Laid.{laid-asks}
@@ -28,6 +28,9 @@ put-requires-2 c κs = tt
 put-kind-requires : tie.Need-put-kind-requires
 put-kind-requires c κs = tt
 
+put-mark-requires : tie.Need-put-mark-requires
+put-mark-requires c κs = tt
+
 slice-aggregate-put-3 : tie.Need-slice-aggregate-put-3
 slice-aggregate-put-3 c = refl
 
@@ -40,15 +43,16 @@ same-length c = search needs
 returns : tie.Need-returns
 unfolding segmentText
 returns c =
-    let p5 = c .before .before in
-    let p4 = p5 .before .before .before .before .before in
+    let p6 = c .before .before in
+    let p5 = p6 .before .before .before .before .before in
+    let p4 = p5 .before .before .before .before in
     let p3 = p4 .before .before .before .before in
     let p2 = p3 .before .before .before .before .before in
     let p1 = p2 .before .before .before .before in
     let b = p1 .before .before .before .before .before .before in
     put-both (p1 .put .ensures)
     (put-both (put-as (laid-label (b .pre) (b .args .s .label)) (p2 .put-label .ensures))
-    (put-both (p3 .put2 .ensures) (put-both (p4 .put-kind .ensures) (p5 .put3 .ensures))))
+    (put-both (p3 .put2 .ensures) (put-both (p4 .put-kind .ensures) (put-both (p5 .put-mark .ensures) (p6 .put3 .ensures)))))
 
 pub put-segment-spec : {M : Type 1} → statement M
 put-segment-spec =
@@ -60,6 +64,7 @@ put-segment-spec =
     slice-aggregate-put-2
     put-requires-2
     put-kind-requires
+    put-mark-requires
     slice-aggregate-put-3
     put-requires-3
     same-length

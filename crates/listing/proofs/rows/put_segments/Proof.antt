@@ -4,8 +4,7 @@ use native.Mathlib.Omega.{arith}
 use mathlib.Core.Path.{_≡_, _∙_}
 use mathlib.Core.List.{map}
 use lib.ListN.{length, take, drop, length-map}
-use Rattle.ranking.specs.declared.AffixKind.the-variants.{Particle}
-use Rattle.ranking.specs.declared.Segment.{Segment}
+use Rattle.ranking.specs.Stored.{noSegment}
 use Rattle.writing.specs.Refused.{parted, partedFrom}
 use Rattle.listing.specs.Texts.{segmentText}
 use Rattle.writing.proofs.Puts.{put-as, Upto, upto-none}
@@ -22,10 +21,6 @@ abbrev μ-loop : tie.MeasureT-loop
 μ-loop out₀ at texts cuts row n next₀ i₀ out next i = n - i
 
 -- the array of segments has 4 places
--- what stands past the end of the array
-abbrev noSegment : Segment
-noSegment = record { label = 0; kind = Particle }
-
 places : (b : tie.Start Inv-loop μ-loop) → length (b .args .t5 .segments) ≡ 4
 places b = simp length-map at (b .good .1 .1 .1 .1 .0 .1 .1 .1 .1 .1 .1 .0 .1 .0 .1)
 

@@ -8,14 +8,14 @@ use lib.ListN.{length, take, getD, set, length-set, length-map}
 use lib.Seq.{take-suc, take-set-le, getD-set-same}
 use Rattle.ranking.specs.declared.Reading.{Reading}
 use Rattle.ranking.specs.Places.{noReading}
-use Rattle.ranking.specs.Kept.{rowsIn}
+use Rattle.ranking.specs.Kept.{rowsIn, keptBytes}
 use Rattle.ranking.proofs.Backs.{rows-length}
 use Rattle.ranking.proofs.kept.filled.Statement.{statement}
 use Rattle.ranking.proofs.kept.filled.Tie as tie
 
 abbrev Inv-loop : tie.InvT-loop
 Inv-loop n out list₀ i₀ list i =
-    (i ≤ n) × (n ≤ 64) × (1152 ≤ length out) × (length (list .rows) ≡ 64)
+    (i ≤ n) × (n ≤ 64) × (keptBytes ≤ length out) × (length (list .rows) ≡ 64)
     × (take i (list .rows) ≡ take i (rowsIn out))
 
 abbrev μ-loop : tie.MeasureT-loop

@@ -7,7 +7,7 @@ use lib.ListN.{length, take, getD, set}
 use borrow.Author.Needs.{needs}
 use Rattle.ranking.specs.declared.Reading.{Reading}
 use Rattle.ranking.specs.Places.{putIn, noReading}
-use Rattle.ranking.specs.Kept.{rowsIn}
+use Rattle.ranking.specs.Kept.{rowsIn, keptBytes}
 use Rattle.ranking.proofs.Backs.{rows-length}
 use Rattle.ranking.proofs.Puts.{carry-on, carried-last, put-front}
 use Rattle.ranking.proofs.kept.insert_at.Statement.{statement}
@@ -15,7 +15,7 @@ use Rattle.ranking.proofs.kept.insert_at.Tie as tie
 
 abbrev Inv-loop : tie.InvT-loop
 Inv-loop at n out₀ carry₀ i₀ out carry i =
-    (at ≤ i) × (i ≤ n) × (n < 64) × (1152 ≤ length out) × (length out ≡ length out₀)
+    (at ≤ i) × (i ≤ n) × (n < 64) × (keptBytes ≤ length out) × (length out ≡ length out₀)
     × (putIn (rowsIn out) i carry ≡ putIn (rowsIn out₀) at carry₀)
 
 abbrev μ-loop : tie.MeasureT-loop

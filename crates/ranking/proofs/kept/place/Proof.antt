@@ -6,7 +6,7 @@ use lib.ListN.{length, take, drop, getD}
 use Rattle.ranking.specs.Rank.{aheadOf}
 use Rattle.ranking.specs.declared.Reading.{Reading}
 use Rattle.ranking.specs.Places.{placeIn, noReading}
-use Rattle.ranking.specs.Kept.{rowsIn}
+use Rattle.ranking.specs.Kept.{rowsIn, keptBytes}
 use Rattle.ranking.proofs.Backs.{rows-length}
 use Rattle.ranking.proofs.Puts.{scan-next, scan-end, place-here, place-next, place-none}
 use Rattle.ranking.proofs.kept.place.Statement.{statement}
@@ -14,7 +14,7 @@ use Rattle.ranking.proofs.kept.place.Tie as tie
 
 abbrev Inv-loop : tie.InvT-loop
 Inv-loop word r n out i₀ i =
-    (i ≤ n) × (n ≤ 64) × (1152 ≤ length out)
+    (i ≤ n) × (n ≤ 64) × (keptBytes ≤ length out)
     × (placeIn word r (take n (rowsIn out)) ≡ i + placeIn word r (drop i (take n (rowsIn out))))
 
 abbrev μ-loop : tie.MeasureT-loop

@@ -1,9 +1,10 @@
--- `ranking::rows::put_reading` meets its contract. Assumes nothing.
+-- `ranking::rows::put_reading` meets its contract: the bytes are those of the row. Assumes nothing.
 use Prim.Native.Nat.{ℕ}
 use mathlib.Core.Path.{ap, _∙_}
 use mathlib.Core.List.{List, _++_}
-use lib.ListN.{drop}
-use Rattle.ranking.proofs.Backs.{reading-bytes}
+use lib.ListN.{drop, getD}
+use Rattle.ranking.specs.Stored.{noSegment, readingWidth}
+use Rattle.ranking.proofs.Backs.{segment-bytes, reading-bytes}
 use borrow.Author.Needs.{needs}
 use Rattle.ranking.proofs.rows.put_reading.Statement.{statement}
 use Rattle.ranking.proofs.rows.put_reading.Tie as tie
@@ -47,14 +48,26 @@ array-read-t34 c = search needs
 kind-number-requires : tie.Need-kind-number-requires
 kind-number-requires c κs = search needs
 
+mark-number-requires : tie.Need-mark-number-requires
+mark-number-requires c κs = search needs
+
 kind-number-requires-2 : tie.Need-kind-number-requires-2
 kind-number-requires-2 c κs = search needs
+
+mark-number-requires-2 : tie.Need-mark-number-requires-2
+mark-number-requires-2 c κs = search needs
 
 kind-number-requires-3 : tie.Need-kind-number-requires-3
 kind-number-requires-3 c κs = search needs
 
+mark-number-requires-3 : tie.Need-mark-number-requires-3
+mark-number-requires-3 c κs = search needs
+
 kind-number-requires-4 : tie.Need-kind-number-requires-4
 kind-number-requires-4 c κs = search needs
+
+mark-number-requires-4 : tie.Need-mark-number-requires-4
+mark-number-requires-4 c κs = search needs
 
 slice-aggregate-copy : tie.Need-slice-aggregate-copy
 slice-aggregate-copy c = search needs
@@ -68,18 +81,26 @@ same-length c = search needs
 returns : tie.Need-returns
 returns c =
     let x = c .before .before in
-    let m = x .before .before .before in
-    let j = m .before .before .before in
-    let f = j .before in
+    let m4 = x .before .before .before in
+    let k4 = m4 .before in
+    let m3 = k4 .before in
+    let k3 = m3 .before in
+    let m2 = k3 .before in
+    let k2 = m2 .before in
+    let m1 = k2 .before in
+    let k1 = m1 .before in
+    let f = k1 .before in
     let e = f .before in
     let d = e .before in
     let g = d .before in
     let b = g .before in
     let a = b .before in
     let s = a .before .before .before .before .before .before .before .before .args in
-    x .copy .ensures .1 ∙ ap (λ (l : List ℕ). l ++ drop 18 (s .out .now))
+    let t = s .r .segments in
+    x .copy .ensures .1 ∙ ap (λ (l : List ℕ). l ++ drop readingWidth (s .out .now))
     (reading-bytes (s .r) (a .low .ensures) (b .high .ensures) (g .low2 .ensures) (d .high2 .ensures) (e .low3 .ensures) (f .high3 .ensures)
-    (j .kind-number .ensures) (m .before .before .kind-number2 .ensures) (m .before .kind-number3 .ensures) (m .kind-number4 .ensures))
+    (segment-bytes (getD t 0 noSegment) (k1 .kind-number .ensures) (m1 .mark-number .ensures)) (segment-bytes (getD t 1 noSegment) (k2 .kind-number2 .ensures) (m2 .mark-number2 .ensures))
+    (segment-bytes (getD t 2 noSegment) (k3 .kind-number3 .ensures) (m3 .mark-number3 .ensures)) (segment-bytes (getD t 3 noSegment) (k4 .kind-number4 .ensures) (m4 .mark-number4 .ensures)))
 
 pub put-reading-spec : {M : Type 1} → statement M
 put-reading-spec =
@@ -98,9 +119,13 @@ put-reading-spec =
     array-read-t31
     array-read-t34
     kind-number-requires
+    mark-number-requires
     kind-number-requires-2
+    mark-number-requires-2
     kind-number-requires-3
+    mark-number-requires-3
     kind-number-requires-4
+    mark-number-requires-4
     slice-aggregate-copy
     copy-requires
     same-length

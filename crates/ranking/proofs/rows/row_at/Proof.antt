@@ -3,7 +3,7 @@ use Prim.Native.Nat.{ℕ, _+_, _-_, _*_}
 use native.Mathlib.Omega.{arith}
 use mathlib.Core.Path.{_≡_, ap, _∙_}
 use lib.ListN.{take, drop}
-use Rattle.ranking.specs.Stored.{readingAt}
+use Rattle.ranking.specs.Stored.{readingAt, readingWidth}
 use Rattle.ranking.proofs.Backs.{row-read}
 use borrow.Author.Needs.{needs}
 use Rattle.ranking.proofs.rows.row_at.Statement.{statement}
@@ -30,8 +30,8 @@ get-reading-requires c κs = search needs
 returns : tie.Need-returns
 returns c =
     let a = c .before .before .before in
-    let k : 18 * a .args .i + 18 - 18 * a .args .i ≡ 18 = omega arith in
-    c .get-reading .ensures ∙ ap (λ (n : ℕ). readingAt (take n (drop (18 * a .args .i) (a .args .out .now)))) k ∙ row-read (a .args .out .now) (a .args .i) (a .pre .1)
+    let k : readingWidth * a .args .i + readingWidth - readingWidth * a .args .i ≡ readingWidth = omega arith in
+    c .get-reading .ensures ∙ ap (λ (n : ℕ). readingAt (take n (drop (readingWidth * a .args .i) (a .args .out .now)))) k ∙ row-read (a .args .out .now) (a .args .i) (a .pre .1)
 
 pub row-at-spec : {M : Type 1} → statement M
 row-at-spec =

@@ -6,8 +6,8 @@ use borrow.Author.Needs.{needs}
 use Rattle.ranking.proofs.rows.set_row.Statement.{statement}
 use Rattle.ranking.proofs.rows.set_row.Tie as tie
 
-mul-from : tie.Need-mul-from
-mul-from c = search needs
+mul-at : tie.Need-mul-at
+mul-at c = search needs
 
 sub-put-reading : tie.Need-sub-put-reading
 sub-put-reading c = search needs
@@ -36,7 +36,7 @@ pub set-row-spec : {M : Type 1} → statement M
 set-row-spec =
     tie.close
     (tie.spec
-    mul-from
+    mul-at
     sub-put-reading
     part-put-reading-start
     part-put-reading-end
