@@ -281,7 +281,27 @@ static void origins(void) {
     CHECK(yunthirel_confidence(SLICE("("), SLICE("")) == 0.0f);
 }
 
+static void tokens(void) {
+    static struct yunthirel_token list[YUNTHIREL_TOKENS];
+    static uint8_t text[65537];
+    uint32_t *places = (uint32_t *)list;
+    struct yunthirel_code code = yunthirel_tokens(SLICE("राम, घर"), places, 2 * YUNTHIREL_TOKENS);
+    CHECK(yunthirel_number_of(code) == YUNTHIREL_ANSWERED && yunthirel_count_of(code) == 2);
+    CHECK(list[0].start == 0 && list[0].end == 9 && list[1].start == 11 && list[1].end == 17);
+    CHECK(is(yunthirel_tokens(SLICE("राम, घर"), places, 3), YUNTHIREL_LIST_TOO_SHORT));
+    CHECK(is(yunthirel_tokens(SLICE("\xFF"), places, 0), YUNTHIREL_TEXT_NOT_UTF8));
+    for (size_t i = 0; i < 65536; i++) {
+        text[i] = (uint8_t)"\xE0\xA4\x95,"[i % 4];
+    }
+    code = yunthirel_tokens(text, 65536, places, 2 * YUNTHIREL_TOKENS);
+    CHECK(yunthirel_number_of(code) == YUNTHIREL_ANSWERED && yunthirel_count_of(code) == YUNTHIREL_TOKENS);
+    CHECK(list[YUNTHIREL_TOKENS - 1].start == 65532 && list[YUNTHIREL_TOKENS - 1].end == 65535);
+    text[0] = 0xFF;
+    CHECK(is(yunthirel_tokens(text, 65537, places, 0), YUNTHIREL_TEXT_TOO_LONG));
+}
+
 static void sizes(void) {
+    CHECK(sizeof(struct yunthirel_token) == 8);
     CHECK(sizeof(struct yunthirel_code) == 8);
     CHECK(sizeof(struct yunthirel_segment) == 3);
     CHECK(sizeof(struct yunthirel_reading) == 22);
@@ -300,6 +320,7 @@ int main(void) {
     known();
     forms();
     origins();
+    tokens();
     sizes();
     return failed;
 }

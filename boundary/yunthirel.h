@@ -35,7 +35,10 @@ enum yunthirel_number {
     YUNTHIREL_SHEET_NO_FORM = 5,    /* the first faulty line is no form */
     YUNTHIREL_SHEET_NOT_ABOVE = 6,  /* the first faulty line is a form, and not above the line before */
     YUNTHIREL_TOO_MANY_READINGS = 7, /* the word has more than 64 readings */
-    YUNTHIREL_OUTPUT_TOO_SHORT = 8  /* `out` is shorter than the answer */
+    YUNTHIREL_OUTPUT_TOO_SHORT = 8, /* `out` is shorter than the answer */
+    YUNTHIREL_TEXT_TOO_LONG = 9,    /* the text has more than 65,536 bytes: given before all else */
+    YUNTHIREL_TEXT_NOT_UTF8 = 2,
+    YUNTHIREL_LIST_TOO_SHORT = 10   /* the list has fewer than two numbers for each token */
 };
 
 static inline enum yunthirel_number yunthirel_number_of(struct yunthirel_code code) {
@@ -47,7 +50,7 @@ static inline size_t yunthirel_start_of(struct yunthirel_code code) {
     return (size_t)(code.bits >> 8);
 }
 
-/* How many readings, candidates or bytes of text there are, for a code whose number is 0. */
+/* How many readings, candidates, tokens or bytes of text there are, for a code whose number is 0. */
 static inline size_t yunthirel_count_of(struct yunthirel_code code) {
     return (size_t)(code.bits >> 8);
 }
@@ -93,6 +96,7 @@ struct yunthirel_reading {
 #define YUNTHIREL_READINGS 64
 #define YUNTHIREL_CANDIDATES 16
 #define YUNTHIREL_LISTING_BYTES 37258
+#define YUNTHIREL_TOKENS 16384
 
 /* The word's readings in rank order: `out` takes an array of struct yunthirel_reading, and its length is in bytes, as everywhere.
  * The number of readings (yunthirel_count_of); else a code whose number is 1 to 8. */
@@ -184,6 +188,17 @@ float yunthirel_confidence(const uint8_t *word, size_t word_len, const uint8_t *
 /* The structs are the rows byte for byte. */
 typedef char yunthirel_reading_has_22_bytes[sizeof(struct yunthirel_reading) == 22 ? 1 : -1];
 typedef char yunthirel_root_has_33_bytes[sizeof(struct yunthirel_root) == 33 ? 1 : -1];
+
+/* Words out of running text: longest runs of characters that are neither White_Space nor punctuation, with one at least in U+0900 to
+ * U+097F. A token is the text from byte `start` up to byte `end`. */
+struct yunthirel_token {
+    uint32_t start;
+    uint32_t end;
+};
+
+/* The text's tokens, in its order: `list` takes an array of struct yunthirel_token, and its length is in numbers, two for each. How many
+ * there are; else a code whose number is 9, 2 or 10, and the list is as it was. */
+struct yunthirel_code yunthirel_tokens(const uint8_t *text, size_t text_len, uint32_t *list, size_t list_len);
 
 #ifdef __cplusplus
 }

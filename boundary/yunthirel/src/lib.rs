@@ -1,5 +1,5 @@
 //! Word analysis for Nepali root indexes: readings, root candidates, decomposition, progressive form and origin, each for a word
-//! and a *sheet* of the lexicon's answers.
+//! and a *sheet* of the lexicon's answers; and the words of a running text.
 //!
 //! The answers are made by the proved library (`rt staticlib exports`); this crate lends it the slices and reads its codes. Words
 //! and sheets are bytes, since any bytes have an answer: a word or sheet that breaks a rule is refused with a [`Refusal`].
@@ -41,6 +41,7 @@ pub mod raw;
 mod readings;
 mod refusal;
 mod roots;
+mod tokens;
 
 pub use check::{check_sheet, check_word};
 pub use origin::{Origin, OriginDecision, OriginSource, classify, classify_with_provenance};
@@ -50,3 +51,4 @@ pub use readings::{
 };
 pub use refusal::Refusal;
 pub use roots::{Morpheme, RootCandidate, best_root, decompose, has_known_root, lookup_root_candidates};
+pub use tokens::{Token, tokenize};

@@ -2,7 +2,7 @@
 //!
 //! The lowest byte of a code is 0 for an answer, and else the [`Refusal`](crate::Refusal)'s number, which
 //! [`Refusal::of_code`](crate::Refusal::of_code) reads; above it stands the answer's value, or the place that comes with a refusal.
-//! After a refusal, 8 among them, a lent buffer is as it was; after an answer it is so past the answer's bytes.
+//! After a refusal, 8 and 10 among them, a lent buffer or list is as it was; after an answer it is so past the answer.
 //!
 //! Only this module has unsafe code.
 #![allow(unsafe_code)]
@@ -24,6 +24,9 @@ pub const CANDIDATES_ROOM: usize = 16 * CANDIDATE_ROW;
 
 /// Bytes that are always enough for [`listing`].
 pub const LISTING_ROOM: usize = 37_258;
+
+/// Numbers that are always enough for [`tokens`]: two for each of 16,384 tokens.
+pub const TOKENS_ROOM: usize = 2 * 16_384;
 
 /// The number in a code's lowest byte.
 pub const fn number(code: u64) -> u8 {
@@ -85,6 +88,7 @@ mod foreign {
             out: *mut u8,
             out_len: usize,
         ) -> u64;
+        pub fn yunthirel_tokens(text: *const u8, text_len: usize, list: *mut u32, list_len: usize) -> u64;
     }
 }
 
@@ -167,4 +171,11 @@ pub fn decompose(word: &[u8], sheet: &[u8], out: &mut [u8]) -> u64 {
     let (word_at, sheet_at, out_at) = (word.as_ptr(), sheet.as_ptr(), out.as_mut_ptr());
     // SAFETY: as above.
     unsafe { foreign::yunthirel_decompose(word_at, word.len(), sheet_at, sheet.len(), out_at, out.len()) }
+}
+
+/// The refusal, 9, 2 or 10, which [`Refusal::of_tokens_code`](crate::Refusal::of_tokens_code) reads; else how many tokens the text has,
+/// first byte and byte behind the last of each in `list`, one after the other.
+pub fn tokens(text: &[u8], list: &mut [u32]) -> u64 {
+    // SAFETY: as above; the list's length is in numbers, as the library has it.
+    unsafe { foreign::yunthirel_tokens(text.as_ptr(), text.len(), list.as_mut_ptr(), list.len()) }
 }

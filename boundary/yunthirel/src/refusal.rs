@@ -1,4 +1,4 @@
-//! Why a word, a sheet or a buffer was refused.
+//! Why a word, a sheet, a text, a buffer or a list was refused.
 #![forbid(unsafe_code)]
 
 use crate::raw;
@@ -31,13 +31,19 @@ pub enum Refusal {
     TooManyReadings,
     /// 8: the output is shorter than the answer.
     OutputTooShort,
+    /// 9: the text has more than 65,536 bytes. It is given before all else.
+    TextTooLong,
+    /// 2: the text is not UTF-8.
+    TextNotUtf8,
+    /// 10: the list of tokens is too short.
+    ListTooShort,
 }
 
 /// No faulty line begins further on: a longer sheet is refused with 4.
 const SHEET_LIMIT: usize = 65_536;
 
 impl Refusal {
-    /// The refusal that a code of [`raw`](crate::raw) says, or none where it cannot be read as one: for another number, or for anything
+    /// The refusal that a code of [`raw`](crate::raw) says of a word, a sheet or what was lent for an answer, or none where it cannot be read as one: for another number, or for anything
     /// above the number but a place in a sheet for 5 and 6.
     pub fn of_code(code: u64) -> Option<Refusal> {
         let start = raw::above(code);
@@ -50,6 +56,17 @@ impl Refusal {
             (6, 0..SHEET_LIMIT) => Some(Refusal::SheetNotAbove { start }),
             (7, 0) => Some(Refusal::TooManyReadings),
             (8, 0) => Some(Refusal::OutputTooShort),
+            (9, 0) => Some(Refusal::TextTooLong),
+            (10, 0) => Some(Refusal::ListTooShort),
+            _ => None,
+        }
+    }
+
+    /// The same of a code of [`raw::tokens`](crate::raw::tokens), whose 2 is said of the text.
+    pub fn of_tokens_code(code: u64) -> Option<Refusal> {
+        match Refusal::of_code(code)? {
+            Refusal::WordNotUtf8 => Some(Refusal::TextNotUtf8),
+            refusal @ (Refusal::TextTooLong | Refusal::ListTooShort) => Some(refusal),
             _ => None,
         }
     }
@@ -65,6 +82,9 @@ impl Refusal {
             Refusal::SheetNotAbove { .. } => 6,
             Refusal::TooManyReadings => 7,
             Refusal::OutputTooShort => 8,
+            Refusal::TextTooLong => 9,
+            Refusal::TextNotUtf8 => 2,
+            Refusal::ListTooShort => 10,
         }
     }
 
@@ -90,6 +110,9 @@ impl fmt::Display for Refusal {
             }
             Refusal::TooManyReadings => write!(f, "the word has more than 64 readings"),
             Refusal::OutputTooShort => write!(f, "the output is shorter than the answer"),
+            Refusal::TextTooLong => write!(f, "the text has more than 65,536 bytes"),
+            Refusal::TextNotUtf8 => write!(f, "the text is not UTF-8"),
+            Refusal::ListTooShort => write!(f, "the list is too short for the tokens"),
         }?;
         write!(f, " (refused {})", self.number())
     }
@@ -119,16 +142,40 @@ mod tests {
 
     #[test]
     fn codes_that_are_no_refusal() {
-        for code in [0, 16, 255, 256, 1 + 256, 4 + 256, 7 + 256, 8 + 256, 5 + 256 * SHEET_LIMIT as u64, u64::MAX] {
+        for code in [
+            0,
+            11,
+            16,
+            255,
+            256,
+            1 + 256,
+            9 + 256,
+            10 + 256,
+            4 + 256,
+            7 + 256,
+            8 + 256,
+            5 + 256 * SHEET_LIMIT as u64,
+            u64::MAX,
+        ] {
             assert_eq!(Refusal::of_code(code), None, "{code}");
         }
     }
 
     #[test]
     fn numbers_and_places_come_back() {
-        for code in [1, 2, 3, 4, 5, 6, 7, 8, 5 + 256 * 12, 6 + 256 * 65_535] {
+        for code in [1, 2, 3, 4, 5, 6, 7, 8, 9, 10, 5 + 256 * 12, 6 + 256 * 65_535] {
             let refusal = Refusal::of_code(code).expect("a refusal");
             assert_eq!(u64::from(refusal.number()) + 256 * refusal.start().unwrap_or(0) as u64, code);
+        }
+    }
+
+    #[test]
+    fn codes_of_tokens() {
+        assert_eq!(Refusal::of_tokens_code(9), Some(Refusal::TextTooLong));
+        assert_eq!(Refusal::of_tokens_code(2), Some(Refusal::TextNotUtf8));
+        assert_eq!(Refusal::of_tokens_code(10), Some(Refusal::ListTooShort));
+        for code in [0, 1, 3, 4, 5, 6, 7, 8, 11, 256, 2 + 256, 9 + 256, 10 + 256] {
+            assert_eq!(Refusal::of_tokens_code(code), None, "{code}");
         }
     }
 

@@ -4,3 +4,4 @@ pub mod Widths
 pub mod Enough
 pub mod Places
 pub mod Readable
+pub mod Counted

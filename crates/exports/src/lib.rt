@@ -37,6 +37,7 @@ ghost use Rattle.exports.specs.Codes.{answered, wordCode, sheetCode, ref
 
 pub mod parts;
 pub mod rows;
+pub mod tokens;
 
 // A refusal as a number: its own number in the lowest byte, and above it the place that comes with it.
 pub(crate) fn refusal_code(refusal: Refusal) -> u64
@@ -155,7 +156,7 @@ pub extern "C" fn yunthirel_has_known_root(word: &[u8], sheet: &[u8]) -> u64
 }
 
 // What writing a text gave: how many bytes it has, or the refusal.
-fn written_code(outcome: Written) -> u64
+pub(crate) fn written_code(outcome: Written) -> u64
     requires { ⌜ Small outcome ⌝ }
     ensures { λ r. ⌜ r ≡ writtenCode outcome ⌝ }
 {

@@ -7,13 +7,13 @@ use lib.ListN.{length, drop}
 use lib.Dec.{leb}
 use Rattle.runs.specs.Runs.{pick}
 use Rattle.refusals.specs.declared.Refusal.{Refusal}
-use Rattle.refusals.specs.declared.Refusal.the-variants.{WordTooLong, WordNotUtf8, WordForbidden, SheetTooLong, SheetNoForm, SheetNotAbove, TooManyReadings, OutputTooShort}
+use Rattle.refusals.specs.declared.Refusal.the-variants.{WordTooLong, WordNotUtf8, WordForbidden, SheetTooLong, SheetNoForm, SheetNotAbove, TooManyReadings, OutputTooShort, TextTooLong, TextNotUtf8, ListTooShort}
 use Rattle.refusals.specs.declared.Written.{Written}
 use Rattle.refusals.specs.declared.Written.the-variants.{Wrote, Refused}
 use Rattle.refusals.specs.declared.Numbers.{Numbers}
 use Rattle.refusals.specs.declared.Numbers.the-variants.{Number, Placed}
 
--- document 01's number of each cause
+-- document 01's number of each cause, and then document 02's
 abbrev pub number : Refusal → ℕ
 number WordTooLong = 1
 number WordNotUtf8 = 2
@@ -23,6 +23,9 @@ number (SheetNoForm at) = 5
 number (SheetNotAbove at) = 6
 number TooManyReadings = 7
 number OutputTooShort = 8
+number TextTooLong = 9
+number TextNotUtf8 = 2
+number ListTooShort = 10
 
 -- the place that comes with it: for 5 and 6 the faulty line's first byte
 abbrev pub places : Refusal → List ℕ
@@ -34,6 +37,9 @@ places (SheetNoForm at) = at ∷ []
 places (SheetNotAbove at) = at ∷ []
 places TooManyReadings = []
 places OutputTooShort = []
+places TextTooLong = []
+places TextNotUtf8 = []
+places ListTooShort = []
 
 -- the number, and then the place
 abbrev pub numbersOf : Refusal → List ℕ

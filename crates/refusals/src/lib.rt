@@ -2,7 +2,8 @@
 ghost use mathlib.Core.Path.{_≡_};
 ghost use Rattle.refusals.specs.Refusals.{numbersOf, numbersTold};
 
-// The causes of document 01's table, in its order; for a faulty line, with its first byte. `numbersOf` gives the number of each.
+// The causes of document 01's table, in its order; for a faulty line, with its first byte. Then those of document 02: of a text and a list
+// of tokens (a). `numbersOf` gives the number of each.
 pub enum Refusal {
     WordTooLong,
     WordNotUtf8,
@@ -12,6 +13,9 @@ pub enum Refusal {
     SheetNotAbove(usize),
     TooManyReadings,
     OutputTooShort,
+    TextTooLong,
+    TextNotUtf8,
+    ListTooShort,
 }
 
 // What an entry that is lent an output hands back: how much was written, or why nothing was.
@@ -39,5 +43,8 @@ pub fn numbers_of(refusal: Refusal) -> Numbers
         Refusal::SheetNotAbove(at) => Numbers::Placed(6, at),
         Refusal::TooManyReadings => Numbers::Number(7),
         Refusal::OutputTooShort => Numbers::Number(8),
+        Refusal::TextTooLong => Numbers::Number(9),
+        Refusal::TextNotUtf8 => Numbers::Number(2),
+        Refusal::ListTooShort => Numbers::Number(10),
     }
 }

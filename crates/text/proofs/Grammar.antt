@@ -104,6 +104,13 @@ never ([] ∷ rows) g m = no refl g
 never ((q ∷ qs) ∷ rows) g m =
     ⊎-elim (λ h. let z : _≡_ {A = ℕ} 0 1 = cc in omega arith) (λ k. never rows (and-right (allApart q rows && (apart tail q && tails qs)) _ g) k) (List·Memᴰ·cases-cons m)
 
+-- a first byte chooses its row of the grammar, and each row has one
+pub chooses : (r : Range) (rs : List Range) (b : ℕ) → List·Memᴰ (r ∷ rs) utf8Char → within r b ≡ true → opened utf8Char b ≡ owes rs
+chooses r rs b m w = finds r rs utf8Char b all-good m w
+
+pub no-empty-row : List·Memᴰ [] utf8Char → ⊥
+no-empty-row m = never utf8Char all-good m
+
 -- the bytes that a begun character owes leave nothing owed, and begin no character
 passes : (rs : List Range) (c t : List ℕ) → FitsRow rs c → run (owes rs) (c ++ t) ≡ run (owes []) t
 unfolding run after

@@ -10,6 +10,7 @@ pub mod oracle;
 pub mod run;
 mod texts;
 pub mod timing;
+pub mod tokens;
 pub mod words;
 
 /// The library's functions, under the name that the benchmark knows them by.

@@ -29,6 +29,15 @@ enum-told-5 c = search needs
 enum-told-6 : tie.Need-enum-told-6
 enum-told-6 c = search needs
 
+enum-told-7 : tie.Need-enum-told-7
+enum-told-7 c = search needs
+
+enum-told-8 : tie.Need-enum-told-8
+enum-told-8 c = search needs
+
+enum-told-9 : tie.Need-enum-told-9
+enum-told-9 c = search needs
+
 returns : tie.Need-returns
 returns c = sym (ap numbersOf (c .enum-told .given .1))
 
@@ -53,6 +62,15 @@ returns-7 c = sym (ap numbersOf (c .enum-told5 .given .1))
 returns-8 : tie.Need-returns-8
 returns-8 c = sym (ap numbersOf (c .enum-told6 .given .1))
 
+returns-9 : tie.Need-returns-9
+returns-9 c = sym (ap numbersOf (c .enum-told7 .given .1))
+
+returns-10 : tie.Need-returns-10
+returns-10 c = sym (ap numbersOf (c .enum-told8 .given .1))
+
+returns-11 : tie.Need-returns-11
+returns-11 c = sym (ap numbersOf (c .enum-told9 .given .1))
+
 pub numbers-of-spec : {M : Type 1} → statement M
 numbers-of-spec =
     tie.close
@@ -65,6 +83,9 @@ numbers-of-spec =
     enum-known-refusal-2
     enum-told-5
     enum-told-6
+    enum-told-7
+    enum-told-8
+    enum-told-9
     returns
     returns-2
     returns-3
@@ -72,4 +93,7 @@ numbers-of-spec =
     returns-5
     returns-6
     returns-7
-    returns-8)
+    returns-8
+    returns-9
+    returns-10
+    returns-11)

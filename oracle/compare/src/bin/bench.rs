@@ -44,6 +44,7 @@ fn main() {
     }
     heavy(rounds);
     longest(rounds);
+    tokens(rounds);
 }
 
 fn bytes(words: &[&str]) -> Vec<Vec<u8>> {
@@ -203,4 +204,43 @@ fn time(turns: usize, turn: impl Fn()) -> f64 {
     let start = Instant::now();
     (0..turns).for_each(|_| turn());
     start.elapsed().as_secs_f64() * 1e6 / turns as f64
+}
+
+/// Words out of running text: the library's call, and the crate's with its parts of the text, beside the source's.
+fn tokens(rounds: usize) {
+    println!(
+        "\n{:>30} {:>9} {:>9} {:>9} {:>10} {:>10}",
+        "tokens", "Rust, us", "call, us", "crate, us", "Rust/call", "Rust/crate"
+    );
+    let prose = |limit| ("running text", cases::running::prose_of(limit));
+    let texts = [
+        prose(400),
+        prose(4_000),
+        prose(65_536),
+        ("one word", "क".repeat(65_536 / 3)),
+        ("shortest tokens", "क,".repeat(65_536 / 4)),
+        ("ASCII", "word and word, ".repeat(65_536 / 15)),
+    ];
+    for (name, text) in &texts {
+        let compared = compare::tokens::Compared::of(text.as_bytes());
+        assert!(!compared.differs(), "other tokens than the Rust's");
+        let turns = (200_000 / text.len()).max(1);
+        let mut list = vec![0; yunthirel::raw::TOKENS_ROOM];
+        let (mut rust, mut call, mut api) = (f64::MAX, f64::MAX, f64::MAX);
+        for _ in 0..rounds {
+            rust = rust.min(time(turns, || {
+                black_box(parikshak::tokenize(black_box(text)));
+            }));
+            let start = Instant::now();
+            for _ in 0..turns {
+                black_box(yunthirel::raw::tokens(black_box(text.as_bytes()), &mut list));
+            }
+            call = call.min(start.elapsed().as_secs_f64() * 1e6 / turns as f64);
+            api = api.min(time(turns, || {
+                let _ = black_box(yunthirel::tokenize(black_box(text.as_bytes())));
+            }));
+        }
+        let name = format!("{name} {} bytes", text.len());
+        println!("{name:>30} {rust:9.2} {call:9.2} {api:9.2} {:10.1} {:10.1}", rust / call, rust / api);
+    }
 }

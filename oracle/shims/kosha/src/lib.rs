@@ -111,6 +111,11 @@ pub mod part_of_speech {
     pub fn is_pronoun(pos: Pos) -> bool {
         pos.letters.has('p')
     }
+
+    /// A sheet tells no nouns; `tokenize` never asks.
+    pub fn is_noun(_pos: Pos) -> bool {
+        false
+    }
 }
 
 /// The link line of `form`, as the source's inventory row of form and infinitive.

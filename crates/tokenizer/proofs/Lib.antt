@@ -1,0 +1,10 @@
+pub mod Parted
+pub mod Looks
+pub mod Turns
+pub mod Answered
+pub mod Parsed
+pub mod Edges
+pub mod Longest
+pub mod Ordered
+pub mod Promises
+pub mod Worked
