@@ -62,9 +62,6 @@ use Rattle.origin.specs.declared.entries.DecisionAnswer.{DecisionAnswer}
 use Rattle.origin.specs.declared.entries.DecisionAnswer.the-variants as decisions
 
 -- the number of a refusal and its place, as the code hands them on
-pub number-alone : (r : Refusal) (n : ℕ) → n ∷ [] ≡ numbersOf r → n < 256
-number-alone r n e = let m = number-small r in let k : n ≡ number r = ap (λ (l : List ℕ). getD l 0 0) e in omega (arith, m)
-
 pub number-placed : (r : Refusal) (n at : ℕ) → n ∷ at ∷ [] ≡ numbersOf r → Placed r → (n < 256) × (at < sheetLimit)
 number-placed r n at e p =
     let m = number-small r in

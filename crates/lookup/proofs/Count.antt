@@ -66,9 +66,6 @@ starts-from true n (b ∷ t) zero h = omega arith
 starts-from true n (b ∷ t) (suc i) h = let z = starts-from (eqb b 0x0A) (suc n) t i (omega arith) in omega arith
 starts-from false n (b ∷ t) i h = let z = starts-from (eqb b 0x0A) (suc n) t i h in omega arith
 
-pub start-fits : (s : List ℕ) (i : ℕ) → sheetCheck s ≡ Accepted → i < length (startsOf s) → getD (startsOf s) i 0 < sheetLimit
-start-fits s i h k = let z = starts-from true 0 s i k in let l = accepted-short s h in omega arith
-
 -- one turn of the filling: the start `at` stored at place n of `out`, which was `old` before
 module _ (out old : List ℕ) (n at : ℕ) (h : n < length out) where
   pub stored-front : (rest : List ℕ) → take (n + 1) (set out n at) ++ rest ≡ take n out ++ at ∷ rest

@@ -21,7 +21,7 @@ use Rattle.sheet.specs.declared.inputs.Inputs.the-variants as inputs
 use Rattle.lookup.specs.declared.lines.Checked.{Checked}
 use Rattle.lookup.specs.declared.lines.Ready.{Ready}
 use Rattle.lookup.proofs.Count.{filled}
-use Rattle.lookup.specs.Stored.{Counted, Stored, SheetReady, CountedBy, Prepared}
+use Rattle.lookup.specs.Stored.{Counted, Stored, SheetReady}
 
 module _ (s before after : List ℕ) (c : Checked) (k : Stored s before after c) where
   -- what was said is x, which makes the inputs i
@@ -43,36 +43,6 @@ accepted-sheet sheets.Accepted k = refl
 accepted-sheet sheets.TooLong k = cc
 accepted-sheet (sheets.NoForm at) k = cc
 accepted-sheet (sheets.NotAbove at) k = cc
-
--- what is said of the word with any accepted sheet, x
-module _ (w s before : List ℕ) (x : Inputs) (e : x ≡ byWordThen (wordCheck w) inputs.Accepted) where
-  pub word-refused : (r : Refusal) → x ≡ inputs.Refused r → Prepared w s before before (record { inputs = inputs.Refused r; lines = 0 })
-  unfolding inputsOf
-  word-refused r f = go (wordCheck w) refl (sym e ∙ f)
-    where
-      refused : (y : WordCheck) → wordCheck w ≡ y → inputs.Refused r ≡ byWordThen y (bySheet (sheetCheck s)) → CountedBy y s 0
-          → Prepared w s before before (record { inputs = inputs.Refused r; lines = 0 })
-      refused y q k z = record {
-        said = k ∙ ap (λ (v : WordCheck). byWordThen v (bySheet (sheetCheck s))) (sym q);
-        lines = subst (λ (v : WordCheck). CountedBy v s 0) (sym q) z;
-        stored = refl;
-      }
-
-      go : (y : WordCheck) → wordCheck w ≡ y → byWordThen y inputs.Accepted ≡ inputs.Refused r → Prepared w s before before (record { inputs = inputs.Refused r; lines = 0 })
-      go words.Accepted q k = let z : _≡_ {A = ℕ} 0 1 = cc in absurd (omega arith)
-      go words.TooLong q k = refused words.TooLong q (sym k) refl
-      go words.NotUtf8 q k = refused words.NotUtf8 q (sym k) refl
-      go words.Forbidden q k = refused words.Forbidden q (sym k) refl
-
-  pub word-accepted : (after : List ℕ) (r : Ready) → x ≡ inputs.Accepted → SheetReady s before after r → Prepared w s before after r
-  unfolding inputsOf
-  word-accepted after r f k =
-      let q : wordCheck w ≡ words.Accepted = accepted-word (wordCheck w) (sym e ∙ f) in
-      record {
-        said = k .said ∙ ap (λ (v : WordCheck). byWordThen v (bySheet (sheetCheck s))) (sym q);
-        lines = subst (λ (v : WordCheck). CountedBy v s (r .lines)) (sym q) (k .lines);
-        stored = k .stored;
-      }
 
 -- what refuses a word refuses it with every sheet, and an accepted word leaves it to the sheet; x is what is said of the word
 module _ (w : List ℕ) (i x : Inputs) (e : x ≡ byWordThen (wordCheck w) inputs.Accepted) where
@@ -112,12 +82,3 @@ indexed s before after r k e =
     let t : take (r .lines) (startsOf s) ≡ startsOf s = take-all (r .lines) (startsOf s) (omega arith) in
     let o : after ≡ startsOf s ++ drop (r .lines) before = k .stored ∙ ap (λ (l : List ℕ). l ++ drop (r .lines) before) t in
     (omega (arith, ap length o, length-append (startsOf s) (drop (r .lines) before), n), filled s after before (r .lines) h n o)
-
--- what the caller has of an accepted word and sheet: the stored starts stand for the sheet in a search
-pub ready : (w s before after : List ℕ) (r : Ready) → Prepared w s before after r → r .inputs ≡ inputs.Accepted →
-    (wordCheck w ≡ words.Accepted) × (r .lines ≤ length after) × Indexed s (take (r .lines) after)
-ready w s before after r k e =
-    let a = accepted-each w s (sym (k .said) ∙ e) in
-    let c : CountedBy words.Accepted s (r .lines) = subst (λ (v : WordCheck). CountedBy v s (r .lines)) (a .0) (k .lines) in
-    let i = indexed s before after r (record { said = e ∙ ap bySheet (sym (a .1)); lines = c; stored = k .stored }) e in
-    (a .0, i .0, i .1)

@@ -3,11 +3,8 @@ use Prim.Native.Nat.{ℕ, _<_}
 use mathlib.Core.Path.{_≡_}
 use mathlib.Core.List.{List, _++_}
 use lib.ListN.{length, take, drop, getD}
-use Rattle.text.specs.Word.{wordCheck}
-use Rattle.text.specs.declared.word.WordCheck.{WordCheck}
-use Rattle.text.specs.declared.word.WordCheck.the-variants as words
 use Rattle.sheet.specs.Lines.{startsOf, sheetCheck}
-use Rattle.sheet.specs.Inputs.{bySheet, inputsOf}
+use Rattle.sheet.specs.Inputs.{bySheet}
 use Rattle.sheet.specs.declared.check.SheetCheck.{SheetCheck}
 use Rattle.sheet.specs.declared.check.SheetCheck.the-variants as sheets
 use Rattle.lookup.specs.declared.lines.Checked.{Checked}
@@ -35,17 +32,4 @@ pub record Stored (s before after : List ℕ) (r : Checked) : Type 0 where
 pub record SheetReady (s before after : List ℕ) (r : Ready) : Type 0 where
   pub said : r .inputs ≡ bySheet (sheetCheck s)
   pub lines : Counted s (sheetCheck s) (r .lines)
-  pub stored : after ≡ storedIn s (r .lines) before
-
--- of a word that is refused nothing is stored; else what is stored of the sheet
-abbrev pub CountedBy : WordCheck → List ℕ → ℕ → Type 0
-CountedBy words.Accepted s n = Counted s (sheetCheck s) n
-CountedBy words.TooLong s n = n ≡ 0
-CountedBy words.NotUtf8 s n = n ≡ 0
-CountedBy words.Forbidden s n = n ≡ 0
-
--- the same of a word and a sheet together
-pub record Prepared (w s before after : List ℕ) (r : Ready) : Type 0 where
-  pub said : r .inputs ≡ inputsOf w s
-  pub lines : CountedBy (wordCheck w) s (r .lines)
   pub stored : after ≡ storedIn s (r .lines) before

@@ -1,10 +1,10 @@
-// The check of a word and a sheet for all that is asked of them: the sheet is read once, and the first byte of each line is stored on
+// The check of a word and of a sheet for all that is asked of them: the sheet is read once, and the first byte of each line is stored on
 // the way.
 ghost use mathlib.Core.Path.{_≡_};
 ghost use Rattle.text.specs.Word.{wordCheck};
 ghost use Rattle.sheet.specs.Inputs.{byWordThen};
 ghost use Rattle.lookup.specs.Starts.{Room};
-ghost use Rattle.lookup.specs.Stored.{Stored, SheetReady, Prepared};
+ghost use Rattle.lookup.specs.Stored.{Stored, SheetReady};
 use crate::starts::Start;
 use refusals::Refusal;
 use sheet::check::SheetCheck;
@@ -131,21 +131,5 @@ pub fn first_refusal(word: &[u8], sheet_refusal: Refusal) -> Refusal
     match inputs {
         Inputs::Refused(refusal) => refusal,
         Inputs::Accepted => sheet_refusal,
-    }
-}
-
-// Whether word and sheet are accepted; of several reasons to refuse them, the one with the lowest number. The first bytes of the sheet's
-// lines are stored at the front of `out`, as `check_lines` does it; of a refused word nothing is stored.
-pub fn prepare(word: &[u8], sheet: &[u8], out: &mut [Start]) -> Ready
-    requires { ⌜ Room (now sheet) (now out) ⌝ }
-    ensures { λ r. ⌜ Prepared (now (word .entry)) (now (sheet .entry)) (now (out .entry)) (now (out .exit)) r ⌝ }
-{
-    let inputs = prepare_word(word);
-    match inputs {
-        Inputs::Refused(refusal) => Ready {
-            inputs: Inputs::Refused(refusal),
-            lines: 0,
-        },
-        Inputs::Accepted => prepare_sheet(sheet, out),
     }
 }

@@ -1,1 +1,4 @@
 pub mod Worked
+pub mod Derived
+pub mod Limits
+pub mod Owned

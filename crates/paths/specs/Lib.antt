@@ -1,7 +1,9 @@
+-- To be believed: what the statements of the entries and the promises say.
 pub mod Support
 pub mod Chains
 pub mod Readings
-pub mod Walk
 pub mod Rank
 pub mod Counted
 pub mod Questions
+-- Machinery: what contracts inside say on the way. Whoever reads the promises need not read it.
+pub mod Walk

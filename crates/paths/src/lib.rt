@@ -9,8 +9,6 @@ pub const FORMS: u8 = 30;
 
 pub const STRIPS: u8 = 4;
 
-pub const PREFIXES: u8 = 2;
-
 // The suffixes stripped so far: nearest the stem first, places that are not used are blank.
 pub struct Chain {
     pub segments: [Segment; 4],

@@ -1,4 +1,4 @@
-// What is said of a word and a sheet together. `lookup::lines::prepare` says it for every entry that takes both.
+// What is said of a word and a sheet together. `lookup::lines::{prepare_sheet, prepare_word}` say it for every entry that takes both.
 use refusals::Refusal;
 
 // What is said of a word and a sheet together: both are accepted, or one is refused.

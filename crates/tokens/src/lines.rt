@@ -8,6 +8,7 @@ use writing::write_refused;
 ghost use mathlib.Core.Path.{_≡_};
 ghost use Prim.Native.Nat.{_*_, _≤_};
 ghost use lib.ListN.{length, take};
+ghost use Rattle.tokenizer.specs.Answers.{listed};
 ghost use Rattle.writing.specs.Placed.{Wrote, Answer, Whole};
 ghost use Rattle.tokens.specs.Printed.{tokenLine, printed};
 ghost use Rattle.tokens.specs.Lines.{linesOf, listText};
@@ -70,9 +71,9 @@ fn write_list(list: &[u32], count: usize, out: &mut [u8]) -> Written
     Written::Wrote(size)
 }
 
-// Writes what the program prints for the text at the front of `out`. `list` is where its tokens are kept on the way.
+// Writes what the program prints for the text at the front of `out`. `list` takes the tokens on the way, as `tokenize` fills it.
 pub fn print_tokens(text: &[u8], list: &mut [u32; 32768], out: &mut [u8]) -> Written
-    ensures { λ r. ⌜ Answer (printed (now (text .entry))) (now (out .entry)) (now (out .exit)) r ⌝ }
+    ensures { λ r. ⌜ Answer (printed (now (text .entry))) (now (out .entry)) (now (out .exit)) r × (now (list .exit) ≡ listed (now (text .entry)) (now (list .entry))) ⌝ }
 {
     let told = tokenize(text, list);
     match told {
@@ -83,7 +84,7 @@ pub fn print_tokens(text: &[u8], list: &mut [u32; 32768], out: &mut [u8]) -> Wri
 
 // The same in a buffer of 262,157 bytes, which is always long enough: the length alone is given.
 pub fn answer_of(text: &[u8], list: &mut [u32; 32768], out: &mut [u8; 262157]) -> usize
-    ensures { λ r. ⌜ Whole (printed (now (text .entry))) (now (out .entry)) (now (out .exit)) r ⌝ }
+    ensures { λ r. ⌜ Whole (printed (now (text .entry))) (now (out .entry)) (now (out .exit)) r × (now (list .exit) ≡ listed (now (text .entry)) (now (list .entry))) ⌝ }
 {
     let written = print_tokens(text, list, out);
     match written {

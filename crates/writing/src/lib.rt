@@ -1,5 +1,6 @@
-// Texts put into a lent buffer one after the other. A text that does not fit in changes nothing, and the place after it is given all
-// the same: so one run on a buffer without room tells how long a text is, and another writes it.
+// Texts put into a lent buffer one after the other. The place after a text is given also where it does not fit in: so one run on a buffer
+// without room tells how long a text is, and another writes it. Free: what stands in the buffer from the first place on where a text
+// does not fit in; an entry tests that first.
 ghost use mathlib.Core.Path.{_≡_};
 ghost use mathlib.Core.List.{[], _∷_};
 ghost use Prim.Native.Nat.{_+_, _<_, min};

@@ -20,13 +20,13 @@ returns : tie.Need-returns
 returns c =
     let p = c .before .before .before in
     let a = p .before .before .before .before .args in
-    whole (printed (a .text .now)) (a .out .now) _ _ (omega (arith, printed-size (a .text .now))) (p .print-tokens .ensures) _ (c .before .written .given .1)
+    (whole (printed (a .text .now)) (a .out .now) _ _ (omega (arith, printed-size (a .text .now))) (p .print-tokens .ensures .0) _ (c .before .written .given .1), p .print-tokens .ensures .1)
 
 returns-2 : tie.Need-returns-2
 returns-2 c =
     let p = c .before .before in
     let a = p .before .before .before .before .args in
-    absurd (never-short (printed (a .text .now)) (a .out .now) _ _ (omega (arith, printed-size (a .text .now))) (p .print-tokens .ensures) _ (c .enum-told .given .1))
+    absurd (never-short (printed (a .text .now)) (a .out .now) _ _ (omega (arith, printed-size (a .text .now))) (p .print-tokens .ensures .0) _ (c .enum-told .given .1))
 
 pub answer-of-spec : {M : Type 1} → statement M
 answer-of-spec =

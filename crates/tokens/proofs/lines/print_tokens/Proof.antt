@@ -31,7 +31,7 @@ same-length c = search needs
 returns : tie.Need-returns
 returns c =
     let t = c .before .before .before .before .before .before .before .before .before .tokenize .ensures in
-    answer-as (printed-list _ _ _ _ (omega arith) (sym (c .before .before .before .before .before .before .before .told .given .1) ∙ t .0) (t .1)) (c .before .before .write-list .ensures)
+    (answer-as (printed-list _ _ _ _ (omega arith) (sym (c .before .before .before .before .before .before .before .told .given .1) ∙ t .0) (t .1)) (c .before .before .write-list .ensures), t .1)
 
 same-length-2 : tie.Need-same-length-2
 same-length-2 c = search needs
@@ -39,7 +39,7 @@ same-length-2 c = search needs
 returns-2 : tie.Need-returns-2
 returns-2 c =
     let t = c .before .before .before .before .before .before .before .tokenize .ensures in
-    answer-as (printed-refused _ _ _ (omega arith) (sym (c .before .before .before .before .before .told2 .given .1) ∙ t .0)) (c .before .before .write-refused .ensures)
+    (answer-as (printed-refused _ _ _ (omega arith) (sym (c .before .before .before .before .before .told2 .given .1) ∙ t .0)) (c .before .before .write-refused .ensures), t .1)
 
 pub print-tokens-spec : {M : Type 1} → statement M
 print-tokens-spec =
