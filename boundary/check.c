@@ -194,6 +194,25 @@ static void marks(void) {
     CHECK(readings[0].segments[2].shared == 0 && readings[0].segments[3].shared == 0);
 }
 
+/* The word put back together from each of its rows, one with a prefix's form and one with a shared letter among them. */
+static void surfaces(void) {
+    static const char *const words[] = {"घरले", "निःशुल्क", "उपप्रतिघरहरूबाटसम्मनै"};
+    static const char *const sheets[] = {"(w घर (wh))\n(w घरल (w))\n", "(w शुल्क (h))\n", "(w घर (wh))\n"};
+    uint8_t text[192];
+    for (size_t k = 0; k < 3; k++) {
+        struct yunthirel_code code = ask_readings(words[k], sheets[k]);
+        CHECK(yunthirel_count_of(code) > 0);
+        for (size_t i = 0; i < yunthirel_count_of(code); i++) {
+            struct yunthirel_code size = yunthirel_surface(SLICE(words[k]), (const uint8_t *)&readings[i], sizeof readings[i], text, sizeof text);
+            CHECK(yunthirel_number_of(size) == YUNTHIREL_ANSWERED);
+            CHECK(is_text(text, 0, yunthirel_count_of(size), words[k]));
+            CHECK(is(yunthirel_surface(SLICE(words[k]), (const uint8_t *)&readings[i], sizeof readings[i], text, strlen(words[k]) - 1), YUNTHIREL_OUTPUT_TOO_SHORT));
+        }
+    }
+    CHECK(is(yunthirel_surface(SLICE("("), (const uint8_t *)&readings[0], sizeof readings[0], text, sizeof text), YUNTHIREL_WORD_FORBIDDEN));
+    CHECK(is(yunthirel_surface(SLICE("घर"), (const uint8_t *)"", 0, text, sizeof text), YUNTHIREL_ANSWERED));
+}
+
 static void fields_of_a_root(void) {
     const char *word = "उपघरबारकोता";
     const char *sheet = "(w घरबार (wht))\n(w घरबारको (wh))\n(w घरबारकोता (w))\n";
@@ -316,6 +335,7 @@ int main(void) {
     kinds();
     marks();
     fields_of_a_reading();
+    surfaces();
     fields_of_a_root();
     known();
     forms();

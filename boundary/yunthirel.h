@@ -1,10 +1,10 @@
 /* Word analysis for Nepali root indexes: the functions of the static library (`rt staticlib exports`), for x86-64 programs in C (C99 or
  * later) and C++.
  *
- * A function takes slices, each as a pointer and a number of bytes. A pointer is not NULL, with 0 bytes too: data() of an empty
- * std::vector or std::string_view may be, so C++ callers pass the address of some byte for those. `out` is no part of the word or the
- * sheet. Every word and every sheet has an answer: nothing need be checked first. No function keeps a pointer, allocates or has a
- * state, so that threads may call them at once.
+ * A function takes slices, each as a pointer and a number of bytes, for a list of tokens of numbers. A pointer is not NULL, with 0 bytes too: data() of an empty
+ * std::vector or std::string_view may be, so C++ callers pass the address of some byte for those. `out` is no part of the word, the
+ * sheet or the row, a list of tokens none of the text. Every word and every sheet has an answer: nothing need be checked first. No
+ * function keeps a pointer, allocates or has a state, so that threads may call them at once.
  *
  * Each function but yunthirel_confidence, which gives a float, gives a code: a struct, so that no test takes a refusal for a yes. Its
  * number (yunthirel_number_of) is 0 for an answer, or that of a refusal. After a refusal `out` is as it was; after an answer it is so past
@@ -25,7 +25,7 @@ struct yunthirel_code {
 };
 
 /* What the number of a code says. Of several refusals the lowest number is given, except that of 5 and 6 the earlier line
- * decides; those two have the line's first byte in the sheet above them (yunthirel_start_of). */
+ * decides, and that 9 comes before 2 for a text; 5 and 6 have the line's first byte in the sheet above them (yunthirel_start_of). */
 enum yunthirel_number {
     YUNTHIREL_ANSWERED = 0,
     YUNTHIREL_WORD_TOO_LONG = 1,    /* the word has more than 192 bytes */
@@ -98,9 +98,14 @@ struct yunthirel_reading {
 #define YUNTHIREL_LISTING_BYTES 37258
 #define YUNTHIREL_TOKENS 16384
 
-/* The word's readings in rank order: `out` takes an array of struct yunthirel_reading, and its length is in bytes, as everywhere.
+/* The word's readings in rank order: `out` takes an array of struct yunthirel_reading, and its length is in bytes, as everywhere but for a list of tokens, whose length is in numbers.
  * The number of readings (yunthirel_count_of); else a code whose number is 1 to 8. */
 struct yunthirel_code yunthirel_readings(const uint8_t *word, size_t word_len, const uint8_t *sheet, size_t sheet_len, uint8_t *out, size_t out_len);
+
+/* Writes the word back from one of its rows (a struct yunthirel_reading), and gives the number of bytes (yunthirel_count_of): the forms of
+ * its prefixes, the root, and its suffixes, a shared letter written once; for each row that yunthirel_readings stores for the word, the
+ * word itself. A row of too few bytes makes no text. Else a code whose number is 1 to 3, or 8. */
+struct yunthirel_code yunthirel_surface(const uint8_t *word, size_t word_len, const uint8_t *row, size_t row_len, uint8_t *out, size_t out_len);
 
 /* The same list as text, as the program `readings` prints it, without a 0 at its end. The number of bytes (yunthirel_count_of);
  * else a code whose number is 1 to 8. */

@@ -22,7 +22,7 @@
 //! Functions and fields have the names of the Rust source that the library is a port of, except that its `AffixAnalysis` is
 //! [`Reading`] here. Left out are the fields `surface`, `suffixes` and `prefix_segments` of analyses, the kind `Prefix`, and the
 //! functions `is_documented`, `supported_origin` and `source_language`; [`check_word`], [`check_sheet`] and [`write_readings`] are
-//! not the source's. Texts are parts of what was lent: stems and roots of the word, a lemma of the sheet.
+//! not the source's, nor are [`Reading::surface`] and the mark `shared` of a segment. Texts are parts of what was lent: stems and roots of the word, a lemma of the sheet.
 //!
 //! A code or row of the library that cannot be read as an answer makes this crate panic: then the archive and this crate do not
 //! belong together. Numbers, places, ranges and unused bytes are checked, as each `of_code` and `of_row` says; whether an answer is

@@ -72,6 +72,14 @@ mod foreign {
             out: *mut u8,
             out_len: usize,
         ) -> u64;
+        pub fn yunthirel_surface(
+            word: *const u8,
+            word_len: usize,
+            row: *const u8,
+            row_len: usize,
+            out: *mut u8,
+            out_len: usize,
+        ) -> u64;
         pub fn yunthirel_candidates(
             word: *const u8,
             word_len: usize,
@@ -148,6 +156,14 @@ pub fn readings(word: &[u8], sheet: &[u8], out: &mut [u8]) -> u64 {
     unsafe {
         foreign::yunthirel_readings(word.as_ptr(), word.len(), sheet.as_ptr(), sheet.len(), out.as_mut_ptr(), out.len())
     }
+}
+
+/// Writes the word back from one of its rows, and gives the number of bytes: for each row of [`readings`] the word itself. The refusal, 1
+/// to 3 of the word and 8 for too short an `out` among them.
+pub fn surface(word: &[u8], row: &[u8], out: &mut [u8]) -> u64 {
+    let (word_at, row_at, out_at) = (word.as_ptr(), row.as_ptr(), out.as_mut_ptr());
+    // SAFETY: as above.
+    unsafe { foreign::yunthirel_surface(word_at, word.len(), row_at, row.len(), out_at, out.len()) }
 }
 
 /// The same list as the text that the program `readings` prints, and the number of its bytes.

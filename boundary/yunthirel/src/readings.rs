@@ -71,6 +71,28 @@ pub struct Reading<'w> {
 }
 
 impl<'w> Reading<'w> {
+    /// The word put back together: the stem, then its suffixes nearest first, a shared letter written once. For every reading that
+    /// [`analyze_affixes`] gives this is the word: proved of the library's rows ([`raw::surface`]), tested of this function.
+    ///
+    /// ```
+    /// let sheet = "(w घर (wh))\n(w घरल (w))\n".as_bytes();
+    /// for reading in yunthirel::analyze_affixes("घरले".as_bytes(), sheet)? {
+    ///     assert_eq!(reading.surface(), "घरले");
+    /// }
+    /// # Ok::<(), yunthirel::Refusal>(())
+    /// ```
+    pub fn surface(&self) -> String {
+        let mut text = self.stem.to_string();
+        for segment in &self.suffix_segments {
+            let mut characters = segment.text.chars();
+            if segment.shared {
+                characters.next();
+            }
+            text.push_str(characters.as_str());
+        }
+        text
+    }
+
     /// The reading that a row of [`raw::readings`] is for this word; none for bytes that cannot be read as one.
     ///
     /// Checked is that stem and root are parts of the word and UTF-8, that counts, rows, kinds and marks are in their ranges, and that places

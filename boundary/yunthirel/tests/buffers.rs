@@ -126,3 +126,22 @@ fn rows_that_are_no_answer_are_not_read() {
     row[7] = 1;
     assert_eq!(yunthirel::Morpheme::of_row(word, &row), None);
 }
+
+#[test]
+fn every_row_writes_its_word_back() {
+    for (word, sheet) in cases() {
+        let word = word.as_bytes();
+        let mut rows = [0; raw::READINGS_ROOM];
+        let count = raw::above(raw::readings(word, &sheet, &mut rows));
+        let (rows, _) = rows.as_chunks::<{ raw::READING_ROW }>();
+        for row in &rows[..count] {
+            let ask: Ask = |word, row, out| raw::surface(word, row, out);
+            assert_eq!(filled(ask, word, row, 400), ((word.len() as u64) << 8, word.to_vec(), word.len()));
+            assert_eq!(filled(ask, word, row, word.len() - 1), (8, vec![], 0));
+        }
+    }
+    // A word that is refused, a row with too few bytes, and rows of no word at all.
+    assert_eq!(raw::surface(b"(", &[0; raw::READING_ROW], &mut [0; 9]), 3);
+    assert_eq!(raw::surface("घर".as_bytes(), &[0xFF; 21], &mut []), 0);
+    assert_eq!(raw::number(raw::surface("घर".as_bytes(), &[0xFF; raw::READING_ROW], &mut [0; 400])), 0);
+}

@@ -29,6 +29,7 @@ use Rattle.paths.specs.Counted.{AtLeast}
 use Rattle.paths.specs.Questions.{Own}
 use Rattle.paths.specs.Walk.{wordWalk}
 use Rattle.paths.proofs.Bounded.{rowCount, all-fit}
+use Rattle.paths.specs.Recomposed.{Recomposed, All}
 use Rattle.paths.proofs.Promises as found
 use Rattle.paths.proofs.Promises.{Listed}
 use Rattle.analysis.specs.declared.entry.Said.{Said}
@@ -80,16 +81,22 @@ module _ (w s : List ℕ) (aw : wordCheck w ≡ words.Accepted) (ah : sheetCheck
 
   -- otherwise the list is given, and holds every reading exactly once, in rank order, with its segments and score, and nothing besides
   pub all-listed : (AtLeast 65 (IsReading (reply s) w) → ⊥) → (saidOf w s ≡ said.Listed) × Listed (reply s) w (rowsGiven w s)
-  all-listed few =
-      let l = found.listed (reply s) w (word-parts w aw .1) few in
+  all-listed none =
+      let l = found.listed (reply s) w (word-parts w aw .1) none in
       (said-is ∙ ap byRows (l .1), subst (Listed (reply s) w) (sym (rows-are ∙ ap listedRows (l .1))) (l .2))
+
+  -- where a list is given, there are not too many
+  few : saidOf w s ≡ said.Listed → AtLeast 65 (IsReading (reply s) w) → ⊥
+  few e m = let z : _≡_ {A = ℕ} 0 1 = ap length (ap saidNumbers (sym e) ∙ seven-exactly .1 m) in absurd (omega arith)
+
+  -- every reading of a list that is given puts the word back together
+  pub all-recomposed : saidOf w s ≡ said.Listed → All (Recomposed w) (rowsGiven w s)
+  all-recomposed e = found.recomposed (reply s) w (rowsGiven w s) (all-listed (few e) .1)
 
   -- a list that is given is empty exactly where there is no reading
   pub empty-exactly : saidOf w s ≡ said.Listed → (rowsGiven w s ≡ []) ↔ ((r : Parts) → IsReading (reply s) w r → ⊥)
   empty-exactly e =
-      let few : AtLeast 65 (IsReading (reply s) w) → ⊥ =
-      (λ m. let z : _≡_ {A = ℕ} 0 1 = ap length (ap saidNumbers (sym e) ∙ seven-exactly .1 m) in absurd (omega arith)) in
-      let l = all-listed few .1 in (
+      let l = all-listed (few e) .1 in (
         (λ n r i. no-path (l .paths) (i .0) (l .rows-are ∙ n) (l .each (i .0) .1 (i .1))),
         (λ u. sym (l .rows-are) ∙ none-there (l .paths) (λ p m. u (partsOf p) (p, l .each p .0 m, refl))),
       )

@@ -5,3 +5,4 @@ pub mod Enough
 pub mod Places
 pub mod Readable
 pub mod Counted
+pub mod Surfaces

@@ -27,7 +27,7 @@ module _ {A : Type 0} (bytes : A → List ℕ) where
   each-one x = append-nil (bytes x)
 
   module _ (width : ℕ) (wide : (x : A) → length (bytes x) ≡ width) where
-    each-length : (xs : List A) → length (each bytes xs) ≡ width * length xs
+    pub each-length : (xs : List A) → length (each bytes xs) ≡ width * length xs
     unfolding each
     each-length [] = sym (mul-zero width)
     each-length (x ∷ xs) =

@@ -2,3 +2,4 @@ pub mod Codes
 pub mod Rows
 pub mod Filled
 pub mod Read
+pub mod Surface

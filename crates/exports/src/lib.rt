@@ -37,6 +37,7 @@ ghost use Rattle.exports.specs.Codes.{answered, wordCode, sheetCode, ref
 
 pub mod parts;
 pub mod rows;
+pub mod surface;
 pub mod tokens;
 
 // A refusal as a number: its own number in the lowest byte, and above it the place that comes with it.

@@ -11,6 +11,7 @@ use lib.Dec.{ltb}
 use borrow.Author.Tests.{ltb-true, ltb-false}
 use Rattle.writing.specs.Placed.{Wrote}
 use Rattle.writing.specs.Refused.{gap, parted, partedFrom}
+use Rattle.paths.specs.Recomposed.{inRow}
 use Rattle.writing.proofs.Puts.{put-both, put-as, Upto, upto-more, upto-all}
 
 module _ {A : Type 0} where
@@ -44,6 +45,22 @@ module _ {A : Type 0} where
         let e : partedFrom i (drop i (map f (take n xs))) ≡ (gap i ++ f (getD xs i d)) ++ partedFrom (i + 1) (drop (i + 1) (map f (take n xs))) =
         ap (partedFrom i) (next-text i d h) ∙ rw add-one (sym (append-assoc (gap i) (f (getD xs i d)) (partedFrom (suc i) (drop (suc i) (map f (take n xs)))))) in
         upto-more u (put-both a b) e
+
+    -- the same without spaces
+    pub row-turn : {old mid new : List ℕ} {at m next : ℕ} {whole : List ℕ} (i : ℕ) (d : A) → i < n
+        → Upto old mid at m whole (inRow (drop i (map f (take n xs)))) → Wrote mid new m next (f (getD xs i d))
+        → Upto old new at next whole (inRow (drop (i + 1) (map f (take n xs))))
+    row-turn i d h u a =
+        let e : inRow (drop i (map f (take n xs))) ≡ f (getD xs i d) ++ inRow (drop (i + 1) (map f (take n xs))) = ap inRow (next-text i d h) ∙ rw add-one refl in
+        upto-more u a e
+
+    pub row-all : {old new : List ℕ} {at next : ℕ} (k i : ℕ) → n ≡ min k (length xs) → n ≤ i
+        → Upto old new at next (inRow (map f (take n xs))) (inRow (drop i (map f (take n xs)))) → Wrote old new at next (inRow (map f (take k xs)))
+    row-all k i e h u =
+        let l = length-texts in
+        let z : length (map f (take n xs)) ≤ i = omega arith in
+        let t : take n xs ≡ take k xs = ap (λ (m : ℕ). take m xs) e ∙ sym (take-least k (length xs) xs refl) in
+        put-as (ap (λ (ys : List A). inRow (map f ys)) t) (upto-all u (ap inRow (drop-of-length-le (map f (take n xs)) z)))
 
     -- the end: all texts that a count k allows
     pub parted-all : {old new : List ℕ} {at next : ℕ} (k i : ℕ) → n ≡ min k (length xs) → n ≤ i

@@ -10,7 +10,7 @@ use lib.ListN.{length, take, drop, getD, length-append, length-take, length-drop
 use lib.Dec.{ltb, leb}
 use borrow.Author.Tests.{ltb-true, ltb-false, leb-true}
 use Rattle.runs.specs.Runs.{pick}
-use Rattle.tables.specs.Rows.{prefixLabels, pluralMarkers, caseMarkers, particles}
+use Rattle.tables.specs.Rows.{prefixLabels, prefixForms, pluralMarkers, caseMarkers, particles}
 use Rattle.tables.specs.Tables.{affixes}
 use Rattle.tables.proofs.Tested.{every, at}
 use Rattle.ranking.specs.Parts.{part}
@@ -18,6 +18,9 @@ use Rattle.ranking.specs.declared.AffixKind.{AffixKind}
 use Rattle.ranking.specs.declared.AffixKind.the-variants.{Particle, CaseMarker, PluralMarker, Postposition, ComparisonMarker}
 use Rattle.ranking.specs.declared.Segment.{Segment}
 use Rattle.ranking.specs.declared.Reading.{Reading}
+use Rattle.strips.specs.Suffix.{firstLength}
+use Rattle.paths.specs.Chains.{formOf}
+use Rattle.paths.specs.Recomposed.{inRow, writtenOf, surfaceText}
 use Rattle.writing.specs.Refused.{refusedText}
 use Rattle.listing.specs.Texts.{kindText, markText, segmentText, labelText, prefixTexts, segmentTexts, rowText, rowTexts, listingText, rowRoom, listingRoom}
 use Rattle.writing.proofs.Sizes.{parted-size, digit-size, count-size, number-size}
@@ -85,6 +88,39 @@ module _ (w : List ℕ) (i whole : ℕ) (rs : List Reading) (so-far : whole ≤ 
 
   pub rows-end : (n : ℕ) → i ≤ n → rs ≡ [] → whole ≤ n * rowRoom
   rows-end n h e = let z = ap (λ (l : List Reading). length (rowTexts w l)) e in omega arith
+
+-- what a reading puts together is short too
+form-size : (k : ℕ) → length (formOf k) ≤ 15
+unfolding prefixForms
+form-size k = row-size prefixForms 15 refl k
+
+written-size : (s : Segment) → length (writtenOf s) ≤ 18
+written-size s = by (s .shared)
+  where
+    text : List ℕ
+    text = getD affixes (s .label) []
+
+    by : (b : Bool) → length (pick b (drop (firstLength text) text) text) ≤ 18
+    by true = let a = affix-size (s .label) in let d = length-drop (firstLength text) text in omega arith
+    by false = affix-size (s .label)
+
+in-row-size : {A : Type 0} (f : A → List ℕ) (m : ℕ) → ((x : A) → length (f x) ≤ m) → (xs : List A) → length (inRow (map f xs)) ≤ length xs * m
+in-row-size f m h [] = omega arith
+in-row-size f m h (x ∷ xs) =
+    let t = h x in
+    let q = in-row-size f m h xs in
+    let z = suc-mul (length xs) m in
+    simp length-append (omega arith)
+
+pub surface-size : (w : List ℕ) (r : Reading) → length w ≤ 192 → length (r .prefixes) ≡ 2 → length (r .segments) ≡ 4 → length (surfaceText w r) ≤ listingRoom
+unfolding surfaceText
+surface-size w r h p s =
+    let b = part-size w (r .root) (r .stem) in
+    let t = length-take (r .«prefix_count») (r .prefixes) in
+    let u = length-take (r .«suffix_count») (r .segments) in
+    let d = in-row-size formOf 15 form-size (take (r .«prefix_count») (r .prefixes)) in
+    let e = in-row-size writtenOf 18 written-size (take (r .«suffix_count») (r .segments)) in
+    simp length-append (omega arith)
 
 pub listing-size : (w : List ℕ) (rs : List Reading) (n : ℕ) → n ≤ 64 → n ≡ length rs → length (rowTexts w rs) ≤ n * rowRoom → length (listingText w rs) ≤ listingRoom
 unfolding listingText

@@ -13,6 +13,7 @@ ghost use Rattle.listing.specs.Texts.{listingText, listingRoom};
 
 pub mod entry;
 mod rows;
+pub mod surface;
 pub mod whole;
 
 // Writes the text of a list of readings of the word at the front of `out`. Too short a buffer is left as it was.

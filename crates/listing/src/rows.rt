@@ -21,7 +21,7 @@ ghost use Rattle.writing.specs.Refused.{gap, parted, refusedText};
 ghost use Rattle.listing.specs.Texts.{kindText, markText, segmentText, prefixTexts, segmentTexts, rowText, rowTexts, listingText, rowRoom, listingRoom};
 ghost use Rattle.listing.specs.Labels.{labelAt};
 
-fn wide8(x: u8) -> usize
+pub(crate) fn wide8(x: u8) -> usize
     ensures { λ r. ⌜ r ≡ x ⌝ }
 {
     x as usize
@@ -33,7 +33,7 @@ fn wide16(x: u16) -> usize
     x as usize
 }
 
-fn least(a: usize, b: usize) -> usize
+pub(crate) fn least(a: usize, b: usize) -> usize
     ensures { λ r. ⌜ r ≡ min a b ⌝ }
 {
     if a < b { a } else { b }
@@ -50,7 +50,7 @@ pub(crate) fn put_gap(out: &mut [u8], at: usize, i: usize) -> usize
 }
 
 // Puts row k of a lent table, nothing where there is no such row.
-fn put_label(out: &mut [u8], at: usize, bytes: &[u8], starts: &[u16], k: u8) -> usize
+pub(crate) fn put_label(out: &mut [u8], at: usize, bytes: &[u8], starts: &[u16], k: u8) -> usize
     requires { ⌜ Cuts (now bytes) (now starts) ⌝ }
     ensures { λ r. ⌜ Wrote (now (out .entry)) (now (out .exit)) at r (labelAt (now (bytes .entry)) (now (starts .entry)) k) ⌝ }
 {

@@ -2,3 +2,4 @@ pub mod Worked
 pub mod Derived
 pub mod Limits
 pub mod Owned
+pub mod Rejoined

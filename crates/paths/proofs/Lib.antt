@@ -25,3 +25,4 @@ pub mod Joined
 pub mod Keys
 pub mod Stated
 pub mod Promises
+pub mod Joins

@@ -1,10 +1,10 @@
 -- Demand 3, as theorems about what the walk collects for any word of UTF-8 and any replies. Assumes nothing.
 use Prim.Native.Nat.{ℕ, _≤_}
-use mathlib.Core.Path.{_≡_, refl, sym, ap, _∙_}
+use mathlib.Core.Path.{_≡_, refl, sym, ap, subst, _∙_}
 use mathlib.Core.Bool.{true}
 use mathlib.Core.Logic.{_↔_}
 use native.Mathlib.Omega.{arith}
-use mathlib.Core.List.{List, [], map, reverse, List·Memᴰ}
+use mathlib.Core.List.{List, [], _∷_, map, reverse, List·Memᴰ, List·Memᴰ·head, List·Memᴰ·tail, _++_, append-assoc}
 use lib.ListN.{length}
 use Rattle.text.specs.Utf8.{isUtf8}
 use Rattle.text.specs.Characters.{chars}
@@ -20,6 +20,8 @@ use Rattle.paths.specs.Counted.{Pairwise, Distinct, AtLeast}
 use Rattle.paths.specs.Questions.{Own}
 use Rattle.paths.specs.Walk.{wordWalk}
 use Rattle.paths.proofs.Stated.{rowPaths, rows-given, row-path, rows-ranked, rows-once, stem-is, root-is}
+use Rattle.paths.specs.Recomposed.{inRow, prefixForms, suffixTexts, surfaceText, Recomposed, All}
+use Rattle.paths.proofs.Joins.{path-joins}
 use Rattle.paths.proofs.Unique.{strips-unique}
 use Rattle.paths.proofs.Over as counted
 use Rattle.paths.proofs.Score.{path-score}
@@ -72,6 +74,26 @@ marks-once ask w stem xs ys = strips-unique ask allRows (omega arith) w xs ys st
 pub marked-segments : (ask : Ask) (w : List ℕ) (p : Route) → readingOf ask w p .segments ≡ filled mostStrips noSegment (reverse (map (segmentOf ask) (p .strips)))
 unfolding readingOf
 marked-segments ask w p = refl
+
+-- every listed reading puts the word back together: the forms of its prefixes and its root are the stem, the stem and its suffixes, a
+-- shared letter written once, the word
+pub recomposed : (ask : Ask) (w : List ℕ) (rs : List Reading) → Listed ask w rs → All (Recomposed w) rs
+recomposed ask w rs l = subst (All (Recomposed w)) (l .rows-are) (by (l .paths) (λ p m. m))
+  where
+    by : (ps : List Route) → ((p : Route) → List·Memᴰ p ps → List·Memᴰ p (l .paths)) → All (Recomposed w) (map (readingOf ask w) ps)
+    by [] h = tt
+    by (p ∷ ps) h =
+        let m = h p (List·Memᴰ·head refl) in
+        let t = l .texts p m in
+        (path-joins ask w p (l .each p .0 m) (t .0) (t .1), by ps (λ q k. h q (List·Memᴰ·tail k)))
+
+-- so what a printer joins from a listed reading is the word
+pub joined : (w : List ℕ) (r : Reading) → Recomposed w r → surfaceText w r ≡ w
+unfolding surfaceText
+joined w r c =
+    sym (append-assoc (inRow (prefixForms r)) (rootText w r) (inRow (suffixTexts r)))
+    ∙ ap (λ (x : List ℕ). x ++ inRow (suffixTexts r)) (c .stem-joined)
+    ∙ c .word-joined
 
 -- two sheets alike in their replies to the word's own questions
 pub same-answer : (s t w : List ℕ) → isUtf8 w ≡ true → ((letter : ℕ) (name : List ℕ) → Own (reply s) w letter name → Alike s t letter name)

@@ -5,5 +5,6 @@ pub mod Readings
 pub mod Rank
 pub mod Counted
 pub mod Questions
+pub mod Recomposed
 -- Machinery: what contracts inside say on the way. Whoever reads the promises need not read it.
 pub mod Walk

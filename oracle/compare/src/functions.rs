@@ -17,6 +17,7 @@ pub struct Functions {
     pub check_sheet: Check,
     pub readings: Fill,
     pub listing: Fill,
+    pub surface: Fill,
     pub has_analysis: Ask,
     pub has_known_root: Ask,
     pub candidates: Fill,
@@ -32,6 +33,7 @@ pub const LIBRARY: Functions = Functions {
     check_sheet: raw::check_sheet,
     readings: raw::readings,
     listing: raw::listing,
+    surface: raw::surface,
     has_analysis: raw::has_analysis,
     has_known_root: raw::has_known_root,
     candidates: raw::candidates,
@@ -113,12 +115,20 @@ fn readings(functions: &Functions, word: &[u8], sheet: &[u8]) -> [String; 2] {
     let of_row = |row: &[u8; READING_ROW]| {
         let prefixes = usize::from(row[20]);
         let root = usize::from(u16::from_le_bytes([row[2], row[3]]));
-        Reading::of_row(word, row).filter(|_| are_forms(&row[6..6 + prefixes], &word[..root]))
+        // The row puts its word back together: the forms and the root the stem, the stem and its suffixes the word.
+        let joins = |reading: &Reading| reading.surface().as_bytes() == word && written_back(functions, word, row);
+        Reading::of_row(word, row).filter(joins).filter(|_| are_forms(&row[6..6 + prefixes], &word[..root]))
     };
     match rows(ask, READINGS_ROOM, of_row) {
         Ok(list) => [texts::listing(&list), texts::best_analysis(list.first())],
         Err(text) => [text.clone(), text],
     }
+}
+
+/// Whether the library writes the word back from the row, into every buffer.
+fn written_back(functions: &Functions, word: &[u8], row: &[u8; READING_ROW]) -> bool {
+    let ask = |out: &mut [u8]| (functions.surface)(word, row, out);
+    buffers::filled(ask, word.len(), raw::above).is_ok_and(|(code, bytes)| raw::number(code) == 0 && bytes == word)
 }
 
 fn listing(functions: &Functions, word: &[u8], sheet: &[u8]) -> String {
