@@ -81,6 +81,10 @@ static const char *every_run(const char *word) {
     return sheet;
 }
 
+static struct yunthirel_code ask_visits(const char *word, const char *sheet) {
+    return yunthirel_visits((const uint8_t *)word, strlen(word), (const uint8_t *)sheet, strlen(sheet));
+}
+
 static const char SEVENTY_SEVEN[] = "निःनिःघरकोकोकोक्यारे";
 static const char SIXTEEN[] = "निःघरपहाडितएको";
 
@@ -115,6 +119,10 @@ static void numbers(void) {
     CHECK(is(yunthirel_has_progressive(SLICE("खाइरहेको"), SLICE("")), YUNTHIREL_ANSWERED));
     CHECK(is(yunthirel_progressive(SLICE("खाइरहेको"), SLICE("")), YUNTHIREL_ANSWERED));
     CHECK(yunthirel_is_yes(yunthirel_has_known_root(SLICE("घर"), SLICE("(w घर (w))\n"))));
+    CHECK(yunthirel_count_of(yunthirel_visits(SLICE("घरले"), SLICE("(w घर (wh))\n"))) == 28);
+    CHECK(yunthirel_count_of(ask_visits(SEVENTY_SEVEN, every_run(SEVENTY_SEVEN))) == 320);
+    CHECK(is(yunthirel_visits(SLICE(""), SLICE("")), YUNTHIREL_ANSWERED));
+    CHECK(is(yunthirel_visits(SLICE("("), SLICE("")), YUNTHIREL_WORD_FORBIDDEN));
     CHECK(is(yunthirel_has_known_root(SLICE("घर"), SLICE("")), YUNTHIREL_ANSWERED));
     /* A refusal is no yes, and no form. */
     CHECK(is(yunthirel_has_analysis(SLICE("("), SLICE("")), YUNTHIREL_WORD_FORBIDDEN));

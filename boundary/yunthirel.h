@@ -114,6 +114,10 @@ struct yunthirel_code yunthirel_listing(const uint8_t *word, size_t word_len, co
 /* Whether the word has a reading (yunthirel_is_yes); else a code whose number is 1 to 7. */
 struct yunthirel_code yunthirel_has_analysis(const uint8_t *word, size_t word_len, const uint8_t *sheet, size_t sheet_len);
 
+/* How many pieces the source's walk visits for the word, repeats included: at most 5,000, and 0 for an empty word
+ * (yunthirel_count_of). A word with more than 64 readings has its number too. Else a code whose number is 1 to 6. */
+struct yunthirel_code yunthirel_visits(const uint8_t *word, size_t word_len, const uint8_t *sheet, size_t sheet_len);
+
 /* Whether the word has a root candidate (yunthirel_is_yes); else a code whose number is 1 to 6. */
 struct yunthirel_code yunthirel_has_known_root(const uint8_t *word, size_t word_len, const uint8_t *sheet, size_t sheet_len);
 

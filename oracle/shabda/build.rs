@@ -42,6 +42,38 @@ const PATCHES: &[Patch] = &[
     Patch { module: "origin", old: "\nconst STRIP_SUFFIXES: ", new: "\npub const STRIP_SUFFIXES: " },
 ];
 
+/// Made in `shabda-visits` alone: one line in each of the two functions that walk a word, which counts an entry.
+const VISITS: &[Patch] = &[
+    Patch {
+        module: "morphology",
+        old: "    let support = base_support(current, lex);
+    push_affix_analysis(
+        analyses, seen, surface, stem, current, prefixes, suffixes, support,
+",
+        new: "    crate::count_visit();
+    let support = base_support(current, lex);
+    push_affix_analysis(
+        analyses, seen, surface, stem, current, prefixes, suffixes, support,
+",
+    },
+    Patch {
+        module: "morphology",
+        old: "    let mut prefixes = Vec::new();
+    collect_prefixed_analyses(
+        surface,
+        current,
+        current,
+",
+        new: "    crate::count_visit();
+    let mut prefixes = Vec::new();
+    collect_prefixed_analyses(
+        surface,
+        current,
+        current,
+",
+    },
+];
+
 /// Inventories that the source embeds and that are not in docs/src: the header row its parser
 /// asks for, and no rows, since the sheet takes their place.
 const INVENTORIES: &[(&str, &str)] = &[
@@ -72,7 +104,9 @@ fn main() {
 }
 
 fn patched(module: &str, text: String) -> String {
-    PATCHES.iter().filter(|patch| patch.module == module).fold(text, |text, patch| {
+    let counted = env::var("CARGO_PKG_NAME").is_ok_and(|name| name == "shabda-visits");
+    let visits = VISITS.iter().filter(|_| counted);
+    PATCHES.iter().chain(visits).filter(|patch| patch.module == module).fold(text, |text, patch| {
         let times = text.matches(patch.old).count();
         assert_eq!(times, 1, "{module}.rs: patch {:?} stands {times} times", patch.old);
         text.replacen(patch.old, patch.new, 1)

@@ -22,7 +22,7 @@
 //! Functions and fields have the names of the Rust source that the library is a port of, except that its `AffixAnalysis` is
 //! [`Reading`] here. Left out are the fields `surface`, `suffixes` and `prefix_segments` of analyses, the kind `Prefix`, and the
 //! functions `is_documented`, `supported_origin` and `source_language`; [`check_word`], [`check_sheet`] and [`write_readings`] are
-//! not the source's, nor are [`Reading::surface`] and the mark `shared` of a segment. Texts are parts of what was lent: stems and roots of the word, a lemma of the sheet.
+//! not the source's, nor are [`Reading::surface`], the mark `shared` of a segment and [`visits`]. Texts are parts of what was lent: stems and roots of the word, a lemma of the sheet.
 //!
 //! A code or row of the library that cannot be read as an answer makes this crate panic: then the archive and this crate do not
 //! belong together. Numbers, places, ranges and unused bytes are checked, as each `of_code` and `of_row` says; whether an answer is
@@ -42,6 +42,7 @@ mod readings;
 mod refusal;
 mod roots;
 mod tokens;
+mod visits;
 
 pub use check::{check_sheet, check_word};
 pub use origin::{Origin, OriginDecision, OriginSource, classify, classify_with_provenance};
@@ -52,3 +53,4 @@ pub use readings::{
 pub use refusal::Refusal;
 pub use roots::{Morpheme, RootCandidate, best_root, decompose, has_known_root, lookup_root_candidates};
 pub use tokens::{Token, tokenize};
+pub use visits::{Counted, MOST_VISITS, analyze_affixes_with_visits, visits};

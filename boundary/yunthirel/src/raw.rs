@@ -96,6 +96,7 @@ mod foreign {
             out: *mut u8,
             out_len: usize,
         ) -> u64;
+        pub fn yunthirel_visits(word: *const u8, word_len: usize, sheet: *const u8, sheet_len: usize) -> u64;
         pub fn yunthirel_tokens(text: *const u8, text_len: usize, list: *mut u32, list_len: usize) -> u64;
     }
 }
@@ -129,6 +130,12 @@ pub fn has_progressive(word: &[u8], sheet: &[u8]) -> u64 {
 pub fn has_analysis(word: &[u8], sheet: &[u8]) -> u64 {
     // SAFETY: as above.
     unsafe { foreign::yunthirel_has_analysis(word.as_ptr(), word.len(), sheet.as_ptr(), sheet.len()) }
+}
+
+/// The refusal, which is never 7; else above the number how many pieces are visited.
+pub fn visits(word: &[u8], sheet: &[u8]) -> u64 {
+    // SAFETY: as above.
+    unsafe { foreign::yunthirel_visits(word.as_ptr(), word.len(), sheet.as_ptr(), sheet.len()) }
 }
 
 /// The refusal; [`YES`] for a word with root candidates, [`NO`] for one without.

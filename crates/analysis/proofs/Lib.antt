@@ -5,5 +5,6 @@ pub mod Cuts
 pub mod Turns
 pub mod Opened
 pub mod Strips
+pub mod Visited
 pub mod Accepted
 pub mod Promises

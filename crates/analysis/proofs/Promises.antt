@@ -28,13 +28,19 @@ use Rattle.paths.specs.Readings.{Parts, partsOf, IsReading, readingOf}
 use Rattle.paths.specs.Counted.{AtLeast}
 use Rattle.paths.specs.Questions.{Own}
 use Rattle.paths.specs.Walk.{wordWalk}
+use Rattle.paths.specs.Visits.{visitsOf}
 use Rattle.paths.proofs.Bounded.{rowCount, all-fit}
 use Rattle.paths.specs.Recomposed.{Recomposed, All}
 use Rattle.paths.proofs.Promises as found
 use Rattle.paths.proofs.Promises.{Listed}
 use Rattle.analysis.specs.declared.entry.Said.{Said}
 use Rattle.analysis.specs.declared.entry.Said.the-variants as said
-use Rattle.analysis.specs.Answers.{collected, byRows, listedRows, saidBy, rowsBy, saidOf, rowsGiven, saidNumbers}
+use Rattle.analysis.specs.declared.entry.Visits.{Visits}
+use Rattle.analysis.specs.declared.entry.Visits.the-variants as visits
+use Rattle.runs.specs.Runs.{pick}
+use lib.Dec.{eqb}
+use borrow.Author.Tests.{ne-eqb}
+use Rattle.analysis.specs.Answers.{collected, byRows, listedRows, saidBy, rowsBy, saidOf, rowsGiven, visitsBy, visitsGiven, visitsIn, visitsAnswer, saidNumbers}
 use Rattle.analysis.proofs.Accepted.{word-parts}
 
 abbrev BelowEight : Said → Type 0
@@ -116,6 +122,46 @@ pub same-answer : (s t w : List ℕ) → wordCheck w ≡ words.Accepted → shee
 same-answer s t w aw ah bh h =
     let c : collected w s ≡ collected w t = found.same-answer s t w (word-parts w aw .1) h in
     (said-is w s aw ah ∙ ap byRows c ∙ sym (said-is w t aw bh), rows-are w s aw ah ∙ ap listedRows c ∙ sym (rows-are w t aw bh))
+
+-- The pieces visited (document 02 (n)): those of an accepted word under an accepted sheet, also where the answer is 7.
+
+module _ (w s : List ℕ) (aw : wordCheck w ≡ words.Accepted) (ah : sheetCheck s ≡ sheets.Accepted) where
+  pub visits-are : visitsGiven w s ≡ visitsOf (reply s) w
+  unfolding visitsGiven
+  visits-are = ap (λ (i : Inputs). visitsBy i (visitsOf (reply s) w)) (accepted-both w s aw ah)
+
+-- never more than 5,000, for any word and sheet
+pub few-visits : (w s : List ℕ) → visitsGiven w s ≤ 5000
+unfolding visitsGiven
+few-visits w s = by (inputsOf w s)
+  where
+    by : (i : Inputs) → visitsBy i (visitsOf (reply s) w) ≤ 5000
+    by inputs.Accepted = found.few-visits (reply s) w
+    by (inputs.Refused r) = omega arith
+
+-- two accepted sheets alike in their replies to the word's own questions give the same number
+pub same-visits : (s t w : List ℕ) → wordCheck w ≡ words.Accepted → sheetCheck s ≡ sheets.Accepted → sheetCheck t ≡ sheets.Accepted
+    → ((letter : ℕ) (name : List ℕ) → Own (reply s) w letter name → Alike s t letter name) → visitsGiven w s ≡ visitsGiven w t
+same-visits s t w aw ah bh h = visits-are w s aw ah ∙ found.same-visits s t w (word-parts w aw .1) h ∙ sym (visits-are w t aw bh)
+
+-- none where word or sheet is refused
+pub refused-visits : (w s : List ℕ) (r : Refusal) → inputsOf w s ≡ inputs.Refused r → visitsGiven w s ≡ 0
+unfolding visitsGiven
+refused-visits w s r e = ap (λ (i : Inputs). visitsBy i (visitsOf (reply s) w)) e
+
+-- what is said of the list, and the number, as the number's own answer: only 7 is said beside a number
+abbrev pub visitsSaid : Said → ℕ → Visits
+visitsSaid said.Listed n = visits.Given n
+visitsSaid (said.Refused r) n = pick (eqb (number r) 7) (visits.Given n) (visits.Refused r)
+
+pub visits-said : (w s : List ℕ) → visitsSaid (saidOf w s) (visitsGiven w s) ≡ visitsAnswer w s
+unfolding saidOf visitsGiven visitsAnswer
+visits-said w s = by (inputsOf w s) refl (collected w s)
+  where
+    by : (i : Inputs) → inputsOf w s ≡ i → (c : Rows) → visitsSaid (saidBy i c) (visitsBy i (visitsOf (reply s) w)) ≡ visitsIn i (visitsOf (reply s) w)
+    by inputs.Accepted p (rows rs) = refl
+    by inputs.Accepted p over = refl
+    by (inputs.Refused r) p c = let k = refused-low w s r p in rw (ne-eqb (number r) 7 (λ e. omega arith))
 
 -- a refused word or sheet: the lowest number that applies, and no rows
 pub refused : (w s : List ℕ) (r : Refusal) → inputsOf w s ≡ inputs.Refused r → (saidNumbers (saidOf w s) ≡ lowestNumbers w s) × (rowsGiven w s ≡ [])

@@ -73,11 +73,11 @@ no-shed p t e = by (ltb (length t) (length p))
     by true = e
     by false = refl
 
-no-plain : (p t : List ℕ) → endsIn t p ≡ false → plain p t ≡ []
+pub no-plain : (p t : List ℕ) → endsIn t p ≡ false → plain p t ≡ []
 unfolding plain
 no-plain p t e = rw (no-shed p t e)
 
-no-shared : (p t : List ℕ) → endsIn t p ≡ false → shared p t ≡ []
+pub no-shared : (p t : List ℕ) → endsIn t p ≡ false → shared p t ≡ []
 unfolding shared
 no-shared p t e = rw (no-shed p t e)
 

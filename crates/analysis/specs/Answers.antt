@@ -14,11 +14,14 @@ use Rattle.sheet.specs.declared.inputs.Inputs.the-variants as inputs
 use Rattle.ranking.specs.Lists.{Rows, rows, over, plusAll}
 use Rattle.ranking.specs.declared.Reading.{Reading}
 use Rattle.paths.specs.Walk.{wordWalk}
+use Rattle.paths.specs.Visits.{visitsOf}
 use Rattle.analysis.specs.declared.entry.Said.{Said}
 use Rattle.analysis.specs.declared.entry.Said.the-variants.{Listed, Refused}
 use Rattle.analysis.specs.declared.entry.Best.{Best}
 use Rattle.analysis.specs.declared.entry.Has.{Has}
 use Rattle.analysis.specs.declared.entry.Has.the-variants as has
+use Rattle.analysis.specs.declared.entry.Visits.{Visits}
+use Rattle.analysis.specs.declared.entry.Visits.the-variants as visits
 
 -- all readings of w under the sheet s, in rank order, or that there are more than 64
 abbrev pub collected : List ℕ → List ℕ → Rows
@@ -48,6 +51,23 @@ saidOf w s = saidBy (inputsOf w s) (collected w s)
 -- the rows of the list: those collected where word and sheet are accepted, else none
 unfoldable pub rowsGiven : List ℕ → List ℕ → List Reading
 rowsGiven w s = rowsBy (inputsOf w s) (collected w s)
+
+-- the pieces visited: those of an accepted word under an accepted sheet, also where there are too many readings; none where either is
+-- refused
+abbrev pub visitsBy : Inputs → ℕ → ℕ
+visitsBy inputs.Accepted n = n
+visitsBy (inputs.Refused r) n = 0
+
+unfoldable pub visitsGiven : List ℕ → List ℕ → ℕ
+visitsGiven w s = visitsBy (inputsOf w s) (visitsOf (reply s) w)
+
+-- the number alone, or why there is none: a refusal of word or sheet
+abbrev pub visitsIn : Inputs → ℕ → Visits
+visitsIn inputs.Accepted n = visits.Given n
+visitsIn (inputs.Refused r) n = visits.Refused r
+
+unfoldable pub visitsAnswer : List ℕ → List ℕ → Visits
+visitsAnswer w s = visitsIn (inputsOf w s) (visitsOf (reply s) w)
 
 -- the number of each answer with its place; none where the list is given
 abbrev pub saidNumbers : Said → List ℕ

@@ -7,14 +7,15 @@ use lookup::starts::Start;
 use paths::Chain;
 use paths::Piece;
 use paths::ROWS;
-use ranking::Found;
 use ranking::Listing;
 use ranking::Reading;
 use ranking::blank;
 use ranking::kept::found;
 use ranking::nothing;
 use ranking::rows::KEPT;
+use refusals::Numbers;
 use refusals::Refusal;
+use refusals::numbers_of;
 use sheet::inputs::Inputs;
 use sheet::limits::ALL_STARTS;
 use sheet::limits::FEW_STARTS;
@@ -22,14 +23,16 @@ use sheet::limits::SMALL_BYTES;
 ghost use mathlib.Core.Path.{_≡_};
 ghost use mathlib.Core.List.{[], _∷_};
 ghost use lib.ListN.{length, take};
-ghost use lib.Dec.{ltb};
+ghost use lib.Dec.{eqb, ltb};
 ghost use Rattle.runs.specs.Runs.{pick};
 ghost use Rattle.text.specs.Word.{wordCheck};
 ghost use Rattle.text.specs.declared.word.WordCheck.the-variants.{Accepted};
-ghost use Rattle.sheet.specs.Replies.{Indexed};
+ghost use Rattle.refusals.specs.Refusals.{number};
+ghost use Rattle.sheet.specs.Replies.{Indexed, reply};
 ghost use Rattle.lookup.specs.Starts.{Room};
-ghost use Rattle.ranking.specs.Lists.{foundOf, rowsOf};
-ghost use Rattle.analysis.specs.Answers.{collected, byRows, listedRows, saidOf, rowsGiven, bestRows, hasOf};
+ghost use Rattle.ranking.specs.Lists.{rowsOf};
+ghost use Rattle.paths.specs.Visits.{visitsOf};
+ghost use Rattle.analysis.specs.Answers.{collected, byRows, listedRows, saidOf, rowsGiven, visitsGiven, visitsAnswer, bestRows, hasOf};
 
 // What is said beside the list: it is given, or why it is not, of which there being more than 64 readings is one reason.
 pub enum Said {
@@ -37,9 +40,11 @@ pub enum Said {
     Refused(Refusal),
 }
 
-// The list of readings, empty after a refusal, and what is said of it.
+// The list of readings, empty after a refusal, and what is said of it; beside it how many pieces were visited, 0 where word or sheet is
+// refused.
 pub struct Analysis {
     pub said: Said,
+    pub visits: usize,
     pub list: Listing,
 }
 
@@ -56,19 +61,36 @@ pub enum Has {
     Given(bool),
 }
 
-// Nothing listed, with what is said of it.
-fn refused(said: Said) -> Analysis
-    ensures { λ r. ⌜ (r .said ≡ said) × (rowsOf (r .list) ≡ []) × (r .list .count ≡ 0) ⌝ }
+// The answer of `visits_of`.
+pub enum Visits {
+    Refused(Refusal),
+    Given(usize),
+}
+
+// Nothing listed, with what is said of it and the pieces visited.
+fn refused(said: Said, visits: usize) -> Analysis
+    ensures { λ r. ⌜ (r .said ≡ said) × (rowsOf (r .list) ≡ []) × (r .list .count ≡ 0) × (r .visits ≡ visits) ⌝ }
 {
     let none = nothing();
     let list = none.list;
-    Analysis { said, list }
+    Analysis { said, visits, list }
 }
 
-// All readings of an accepted word under an accepted sheet, or that there are more than 64.
-fn collect(word: &[u8], sheet: &[u8], starts: &[Start]) -> Found
+// What was counted for a word of so many bytes: nothing for an empty one, which the source does not enter.
+fn unless_empty(len: usize, visits: usize) -> usize
+    ensures { λ r. ⌜ r ≡ pick (eqb len 0) 0 visits ⌝ }
+{
+    if len == 0 {
+        return 0;
+    }
+    visits
+}
+
+// What is given where word and sheet are accepted: the list, or that there are too many; and the pieces visited in any case.
+fn listed(word: &[u8], sheet: &[u8], starts: &[Start]) -> Analysis
     requires { ⌜ (wordCheck (now word) ≡ Accepted) × Indexed (now sheet) (now starts) ⌝ }
-    ensures { λ r. ⌜ (foundOf r ≡ collected (now (word .entry)) (now (sheet .entry))) × (r .list .count ≡ length (rowsOf (r .list))) ⌝ }
+    ensures { λ r. ⌜ (r .said ≡ byRows (collected (now (word .entry)) (now (sheet .entry)))) × (rowsOf (r .list) ≡ listedRows (collected (now (word .entry)) (now (sheet .entry))))
+        × (r .list .count ≡ length (listedRows (collected (now (word .entry)) (now (sheet .entry))))) × (r .visits ≡ visitsOf (reply (now (sheet .entry))) (now (word .entry))) ⌝ }
 {
     let texts = tables::affixes();
     let cuts = tables::affix_starts();
@@ -81,7 +103,7 @@ fn collect(word: &[u8], sheet: &[u8], starts: &[Start]) -> Found
         count: 0,
     };
     let mut out: [u8; KEPT] = [0; KEPT];
-    let n = visit(
+    let walked = visit(
         word,
         sheet,
         starts,
@@ -93,41 +115,35 @@ fn collect(word: &[u8], sheet: &[u8], starts: &[Start]) -> Found
             end: word.len(),
             chain,
             rows: ROWS,
+            times: 1,
         },
         surface,
         0,
         &mut out,
     );
-    found(n, &out)
-}
-
-// What is given where word and sheet are accepted: the list, or that there are too many.
-fn listed(word: &[u8], sheet: &[u8], starts: &[Start]) -> Analysis
-    requires { ⌜ (wordCheck (now word) ≡ Accepted) × Indexed (now sheet) (now starts) ⌝ }
-    ensures { λ r. ⌜ (r .said ≡ byRows (collected (now (word .entry)) (now (sheet .entry)))) × (rowsOf (r .list) ≡ listedRows (collected (now (word .entry)) (now (sheet .entry))))
-        × (r .list .count ≡ length (listedRows (collected (now (word .entry)) (now (sheet .entry))))) ⌝ }
-{
-    let found = collect(word, sheet, starts);
+    let visits = unless_empty(word.len(), walked.visits);
+    let found = found(walked.kept, &out);
     if found.over {
-        return refused(Said::Refused(Refusal::TooManyReadings));
+        return refused(Said::Refused(Refusal::TooManyReadings), visits);
     }
     let list = found.list;
     Analysis {
         said: Said::Listed,
+        visits,
         list,
     }
 }
 
-// Every reading of the word that an accepted sheet supports, or why there is no list. `starts` are the first bytes of the sheet's lines.
+// Every reading of the word that an accepted sheet supports, or why there is no list, and the pieces visited. `starts` are the first bytes of the sheet's lines.
 // Free: the rows past the count.
 pub fn analyze_affixes_in(word: &[u8], sheet: &[u8], starts: &[Start]) -> Analysis
     requires { ⌜ Indexed (now sheet) (now starts) ⌝ }
     ensures { λ r. ⌜ (r .said ≡ saidOf (now (word .entry)) (now (sheet .entry))) × (rowsOf (r .list) ≡ rowsGiven (now (word .entry)) (now (sheet .entry)))
-        × (r .list .count ≡ length (rowsGiven (now (word .entry)) (now (sheet .entry)))) ⌝ }
+        × (r .list .count ≡ length (rowsGiven (now (word .entry)) (now (sheet .entry)))) × (r .visits ≡ visitsGiven (now (word .entry)) (now (sheet .entry))) ⌝ }
 {
     let inputs = prepare_word(word);
     match inputs {
-        Inputs::Refused(refusal) => refused(Said::Refused(refusal)),
+        Inputs::Refused(refusal) => refused(Said::Refused(refusal), 0),
         Inputs::Accepted => listed(word, sheet, starts),
     }
 }
@@ -136,22 +152,22 @@ pub fn analyze_affixes_in(word: &[u8], sheet: &[u8], starts: &[Start]) -> Analys
 fn answered(word: &[u8], sheet: &[u8], starts: &mut [Start]) -> Analysis
     requires { ⌜ Room (now sheet) (now starts) ⌝ }
     ensures { λ r. ⌜ (r .said ≡ saidOf (now (word .entry)) (now (sheet .entry))) × (rowsOf (r .list) ≡ rowsGiven (now (word .entry)) (now (sheet .entry)))
-        × (r .list .count ≡ length (rowsGiven (now (word .entry)) (now (sheet .entry)))) ⌝ }
+        × (r .list .count ≡ length (rowsGiven (now (word .entry)) (now (sheet .entry)))) × (r .visits ≡ visitsGiven (now (word .entry)) (now (sheet .entry))) ⌝ }
 {
     let ready = prepare_sheet(sheet, starts);
     let lines = ready.lines;
     let inputs = ready.inputs;
     match inputs {
-        Inputs::Refused(refusal) => refused(Said::Refused(first_refusal(word, refusal))),
+        Inputs::Refused(refusal) => refused(Said::Refused(first_refusal(word, refusal)), 0),
         Inputs::Accepted => analyze_affixes_in(word, sheet, &starts[..lines]),
     }
 }
 
 // The core call: every reading of the word that the sheet supports, each once, in rank order; or why there is none: the lowest
-// number that applies. Free: the rows past the count. A list for the lines of any sheet is 13 KB to clear, which a small sheet is spared.
+// number that applies. Beside it how many pieces the source's walk visits. Free: the rows past the count. A list for the lines of any sheet is 13 KB to clear, which a small sheet is spared.
 pub fn analyze_affixes(word: &[u8], sheet: &[u8]) -> Analysis
     ensures { λ r. ⌜ (r .said ≡ saidOf (now (word .entry)) (now (sheet .entry))) × (rowsOf (r .list) ≡ rowsGiven (now (word .entry)) (now (sheet .entry)))
-        × (r .list .count ≡ length (rowsGiven (now (word .entry)) (now (sheet .entry)))) ⌝ }
+        × (r .list .count ≡ length (rowsGiven (now (word .entry)) (now (sheet .entry)))) × (r .visits ≡ visitsGiven (now (word .entry)) (now (sheet .entry))) ⌝ }
 {
     if sheet.len() <= SMALL_BYTES {
         let mut few: [Start; FEW_STARTS] = [0; FEW_STARTS];
@@ -193,5 +209,34 @@ pub fn has_supported_analysis(word: &[u8], sheet: &[u8]) -> Has
     match said {
         Said::Refused(refusal) => Has::Refused(refusal),
         Said::Listed => Has::Given(some),
+    }
+}
+
+// Whether a refusal is 7, that of too many readings.
+fn is_seven(refusal: Refusal) -> bool
+    ensures { λ r. ⌜ r ≡ eqb (number refusal) 7 ⌝ }
+{
+    let numbers = numbers_of(refusal);
+    match numbers {
+        Numbers::Number(n) => n == 7,
+        Numbers::Placed(n, _) => n == 7,
+    }
+}
+
+// How many pieces the source's walk visits for the word: the number alone, also where there are too many readings to list.
+pub fn visits_of(word: &[u8], sheet: &[u8]) -> Visits
+    ensures { λ r. ⌜ r ≡ visitsAnswer (now (word .entry)) (now (sheet .entry)) ⌝ }
+{
+    let analysis = analyze_affixes(word, sheet);
+    let said = analysis.said;
+    let visits = analysis.visits;
+    match said {
+        Said::Listed => Visits::Given(visits),
+        Said::Refused(refusal) => {
+            if is_seven(refusal) {
+                return Visits::Given(visits);
+            }
+            Visits::Refused(refusal)
+        }
     }
 }

@@ -5,6 +5,7 @@ use lookup::starts::Start;
 use paths::FORMS;
 use paths::Piece;
 use paths::Prefixes;
+use paths::Tally;
 use progressive::find::has_supported_progressive_form;
 use runs::begins_with;
 use strips::prefix::Rest;
@@ -23,6 +24,7 @@ ghost use Rattle.ranking.specs.Lists.{listLimit, plusAll};
 ghost use Rattle.ranking.specs.Kept.{keptOf, HasRoom};
 ghost use Rattle.paths.specs.Walk.{rootWalk, onLeft, overForms, secondWalk, stemWalk};
 ghost use Rattle.paths.specs.Chains.{allForms, mostStrips, formOf};
+ghost use Rattle.paths.specs.Visits.{total, prefixVisits};
 ghost use Rattle.strips.specs.Prefix.{prefixRemainder};
 ghost use Rattle.analysis.specs.Places.{between, Lent};
 
@@ -36,7 +38,8 @@ fn begins(word: &[u8], forms: &[u8], form_cuts: &[u16], from: usize, stem: usize
     begins_with(&word[from..stem], row(forms, form_cuts, i))
 }
 
-// One row for the second prefix: the piece begins at byte `from` of the word, behind the first prefix.
+// One row for the second prefix: the piece begins at byte `from` of the word, behind the first prefix. Each function of this walk counts
+// the entries of the source's prefix walk as it goes.
 fn second_row(
     word: &[u8],
     sheet: &[u8],
@@ -52,23 +55,24 @@ fn second_row(
     surface: u16,
     n: usize,
     out: &mut [u8],
-) -> usize
+) -> Tally
     requires { ⌜ Lent (now word) (now sheet) (now starts) (now texts) (now cuts) (now forms) (now «form_cuts»)
         × (from ≤ at .end) × (at .end ≤ length (now word)) × (second < allForms) × (surface ≤ 192) × (at .chain .count ≤ mostStrips) × HasRoom (now out) n ⌝ }
-    ensures { λ r. ⌜ (keptOf (now (out .exit)) r ≡ plusAll (now (word .entry)) (keptOf (now (out .entry)) n)
+    ensures { λ r. ⌜ (keptOf (now (out .exit)) (r .kept) ≡ plusAll (now (word .entry)) (keptOf (now (out .entry)) n)
         (onLeft (rootWalk (reply (now (sheet .entry))) surface (at .chain) (take (at .end) (now (word .entry))) (first ∷ second ∷ []))
-        (prefixRemainder (between (now (word .entry)) from (at .end)) (formOf second)))) × (r ≤ listLimit + 1) ⌝ }
+        (prefixRemainder (between (now (word .entry)) from (at .end)) (formOf second)))) × (r .kept ≤ listLimit + 1)
+        × (r .visits ≡ total (prefixVisits 0 (reply (now (sheet .entry)))) (prefixRemainder (between (now (word .entry)) from (at .end)) (formOf second))) ⌝ }
 {
     let stem = at.end;
     let k = second as usize;
     let form = row(forms, form_cuts, k);
     let rest = prefix_rest(&word[from..stem], form);
     match rest {
-        Rest::Nothing => n,
+        Rest::Nothing => Tally { kept: n, visits: 0 },
         Rest::From(cut) => {
             let root = from + cut;
             let progressive = has_supported_progressive_form(sheet, starts, &word[root..stem]);
-            with_root(
+            let kept = with_root(
                 word,
                 sheet,
                 starts,
@@ -84,7 +88,8 @@ fn second_row(
                 progressive,
                 n,
                 out,
-            )
+            );
+            Tally { kept, visits: 1 }
         }
     }
 }
@@ -104,21 +109,23 @@ fn second_rows(
     surface: u16,
     n: usize,
     out: &mut [u8],
-) -> usize
+) -> Tally
     requires { ⌜ Lent (now word) (now sheet) (now starts) (now texts) (now cuts) (now forms) (now «form_cuts»)
         × (from ≤ at .end) × (at .end ≤ length (now word)) × (surface ≤ 192) × (at .chain .count ≤ mostStrips) × HasRoom (now out) n ⌝ }
-    ensures { λ r. ⌜ (keptOf (now (out .exit)) r ≡ plusAll (now (word .entry)) (keptOf (now (out .entry)) n)
+    ensures { λ r. ⌜ (keptOf (now (out .exit)) (r .kept) ≡ plusAll (now (word .entry)) (keptOf (now (out .entry)) n)
         (overForms (λ second left. rootWalk (reply (now (sheet .entry))) surface (at .chain) (take (at .end) (now (word .entry))) (first ∷ second ∷ []) left)
-        (between (now (word .entry)) from (at .end)) 0 allForms)) × (r ≤ listLimit + 1) ⌝ }
+        (between (now (word .entry)) from (at .end)) 0 allForms)) × (r .kept ≤ listLimit + 1)
+        × (r .visits ≡ total (λ form. total (prefixVisits 0 (reply (now (sheet .entry)))) (prefixRemainder (between (now (word .entry)) from (at .end)) form)) prefixForms) ⌝ }
 {
     let stem = at.end;
     let mut f = n;
+    let mut v: usize = 0;
     let mut k: u8 = 0;
     while k < FORMS {
         let second = k;
         k += 1;
         if begins(word, forms, form_cuts, from, stem, second) {
-            f = second_row(
+            let r = second_row(
                 word,
                 sheet,
                 starts,
@@ -134,9 +141,11 @@ fn second_rows(
                 f,
                 out,
             );
+            f = r.kept;
+            v += r.visits;
         }
     }
-    f
+    Tally { kept: f, visits: v }
 }
 
 // One row for the first prefix: its own reading, and, where what it leaves is no progressive form, those of a second prefix.
@@ -153,19 +162,20 @@ fn first_row(
     surface: u16,
     n: usize,
     out: &mut [u8],
-) -> usize
+) -> Tally
     requires { ⌜ Lent (now word) (now sheet) (now starts) (now texts) (now cuts) (now forms) (now «form_cuts»)
         × (at .end ≤ length (now word)) × (first < allForms) × (surface ≤ 192) × (at .chain .count ≤ mostStrips) × HasRoom (now out) n ⌝ }
-    ensures { λ r. ⌜ (keptOf (now (out .exit)) r ≡ plusAll (now (word .entry)) (keptOf (now (out .entry)) n)
+    ensures { λ r. ⌜ (keptOf (now (out .exit)) (r .kept) ≡ plusAll (now (word .entry)) (keptOf (now (out .entry)) n)
         (onLeft (secondWalk (reply (now (sheet .entry))) surface (at .chain) (take (at .end) (now (word .entry))) first)
-        (prefixRemainder (take (at .end) (now (word .entry))) (formOf first)))) × (r ≤ listLimit + 1) ⌝ }
+        (prefixRemainder (take (at .end) (now (word .entry))) (formOf first)))) × (r .kept ≤ listLimit + 1)
+        × (r .visits ≡ total (prefixVisits 1 (reply (now (sheet .entry)))) (prefixRemainder (take (at .end) (now (word .entry))) (formOf first))) ⌝ }
 {
     let stem = at.end;
     let k = first as usize;
     let form = row(forms, form_cuts, k);
     let rest = prefix_rest(&word[..stem], form);
     match rest {
-        Rest::Nothing => n,
+        Rest::Nothing => Tally { kept: n, visits: 0 },
         Rest::From(root) => {
             let progressive = has_supported_progressive_form(sheet, starts, &word[root..stem]);
             let f = with_root(
@@ -186,12 +196,12 @@ fn first_row(
                 out,
             );
             if progressive {
-                return f;
+                return Tally { kept: f, visits: 1 };
             }
             if !may_begin(&word[root..stem]) {
-                return f;
+                return Tally { kept: f, visits: 1 };
             }
-            second_rows(
+            let more = second_rows(
                 word,
                 sheet,
                 starts,
@@ -205,7 +215,11 @@ fn first_row(
                 surface,
                 f,
                 out,
-            )
+            );
+            Tally {
+                kept: more.kept,
+                visits: 1 + more.visits,
+            }
         }
     }
 }
@@ -223,20 +237,22 @@ fn first_rows(
     surface: u16,
     n: usize,
     out: &mut [u8],
-) -> usize
+) -> Tally
     requires { ⌜ Lent (now word) (now sheet) (now starts) (now texts) (now cuts) (now forms) (now «form_cuts»)
         × (at .end ≤ length (now word)) × (surface ≤ 192) × (at .chain .count ≤ mostStrips) × HasRoom (now out) n ⌝ }
-    ensures { λ r. ⌜ (keptOf (now (out .exit)) r ≡ plusAll (now (word .entry)) (keptOf (now (out .entry)) n)
-        (overForms (secondWalk (reply (now (sheet .entry))) surface (at .chain) (take (at .end) (now (word .entry)))) (take (at .end) (now (word .entry))) 0 allForms)) × (r ≤ listLimit + 1) ⌝ }
+    ensures { λ r. ⌜ (keptOf (now (out .exit)) (r .kept) ≡ plusAll (now (word .entry)) (keptOf (now (out .entry)) n)
+        (overForms (secondWalk (reply (now (sheet .entry))) surface (at .chain) (take (at .end) (now (word .entry)))) (take (at .end) (now (word .entry))) 0 allForms)) × (r .kept ≤ listLimit + 1)
+        × (r .visits ≡ total (λ form. total (prefixVisits 1 (reply (now (sheet .entry)))) (prefixRemainder (take (at .end) (now (word .entry))) form)) prefixForms) ⌝ }
 {
     let stem = at.end;
     let mut f = n;
+    let mut v: usize = 0;
     let mut k: u8 = 0;
     while k < FORMS {
         let first = k;
         k += 1;
         if begins(word, forms, form_cuts, 0, stem, first) {
-            f = first_row(
+            let r = first_row(
                 word,
                 sheet,
                 starts,
@@ -250,9 +266,11 @@ fn first_rows(
                 f,
                 out,
             );
+            f = r.kept;
+            v += r.visits;
         }
     }
-    f
+    Tally { kept: f, visits: v }
 }
 
 // The readings with this stem; whether the stem is a supported progressive form, which is never stripped, is known already.
@@ -269,10 +287,11 @@ pub(crate) fn with_stem(
     progressive: bool,
     n: usize,
     out: &mut [u8],
-) -> usize
+) -> Tally
     requires { ⌜ Lent (now word) (now sheet) (now starts) (now texts) (now cuts) (now forms) (now «form_cuts»)
         × (at .end ≤ length (now word)) × (surface ≤ 192) × (at .chain .count ≤ mostStrips) × (progressive ≡ isProgressive (reply (now sheet)) (take (at .end) (now word))) × HasRoom (now out) n ⌝ }
-    ensures { λ r. ⌜ (keptOf (now (out .exit)) r ≡ plusAll (now (word .entry)) (keptOf (now (out .entry)) n) (stemWalk (reply (now (sheet .entry))) surface (at .chain) (take (at .end) (now (word .entry))))) × (r ≤ listLimit + 1) ⌝ }
+    ensures { λ r. ⌜ (keptOf (now (out .exit)) (r .kept) ≡ plusAll (now (word .entry)) (keptOf (now (out .entry)) n) (stemWalk (reply (now (sheet .entry))) surface (at .chain) (take (at .end) (now (word .entry))))) × (r .kept ≤ listLimit + 1)
+        × (r .visits ≡ prefixVisits 2 (reply (now (sheet .entry))) (take (at .end) (now (word .entry)))) ⌝ }
 {
     let stem = at.end;
     let f = with_root(
@@ -293,12 +312,12 @@ pub(crate) fn with_stem(
         out,
     );
     if progressive {
-        return f;
+        return Tally { kept: f, visits: 1 };
     }
     if !may_begin(&word[..stem]) {
-        return f;
+        return Tally { kept: f, visits: 1 };
     }
-    first_rows(
+    let more = first_rows(
         word,
         sheet,
         starts,
@@ -310,5 +329,9 @@ pub(crate) fn with_stem(
         surface,
         f,
         out,
-    )
+    );
+    Tally {
+        kept: more.kept,
+        visits: 1 + more.visits,
+    }
 }

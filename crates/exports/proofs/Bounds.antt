@@ -39,7 +39,11 @@ use Rattle.progressive.specs.Progressive.{Outcome, no, yes, progressiveOf}
 use Rattle.progressive.specs.Found.{formOf}
 use Rattle.progressive.specs.Answers.{answerIf, answerOf, Lies, Analyzed, supportedIf, supportedOf}
 use Rattle.ranking.specs.Lists.{Rows, rows, over}
-use Rattle.analysis.specs.Answers.{collected, saidBy, saidOf, rowsGiven, isSome, hasBy, hasOf}
+use Rattle.paths.specs.Visits.{visitsOf}
+use Rattle.paths.proofs.Promises.{few-visits}
+use Rattle.analysis.specs.Answers.{collected, saidBy, saidOf, rowsGiven, isSome, hasBy, hasOf, visitsIn, visitsAnswer}
+use Rattle.analysis.specs.declared.entry.Visits.{Visits}
+use Rattle.analysis.specs.declared.entry.Visits.the-variants as visits
 use Rattle.analysis.specs.declared.entry.Has.{Has}
 use Rattle.analysis.specs.declared.entry.Has.the-variants as has
 use Rattle.analysis.specs.declared.entry.Said.{Said}
@@ -177,6 +181,22 @@ known-placed w s = by (inputsOf w s) refl
 
 pub known-refused : (w s : List ℕ) (d : KnownAnswer) (r : Refusal) → d ≡ knownAnswer w s → d ≡ known.Refused r → Placed r
 known-refused w s d r e f = subst PlacedKnown (sym e ∙ f) (known-placed w s)
+
+-- the same of the pieces visited, which are at most 5,000
+abbrev SmallVisits : Visits → Type 0
+SmallVisits (visits.Given n) = n ≤ 5000
+SmallVisits (visits.Refused r) = Placed r
+
+visits-small : (w s : List ℕ) → SmallVisits (visitsAnswer w s)
+unfolding visitsAnswer
+visits-small w s = by (inputsOf w s) refl
+  where
+    by : (i : Inputs) → inputsOf w s ≡ i → SmallVisits (visitsIn i (visitsOf (reply s) w))
+    by inputs.Accepted e = few-visits (reply s) w
+    by (inputs.Refused r) e = refused-placed w s r e
+
+pub visits-told : (w s : List ℕ) (d x : Visits) → d ≡ visitsAnswer w s → d ≡ x → SmallVisits x
+visits-told w s d x e f = subst SmallVisits (sym e ∙ f) (visits-small w s)
 
 -- the same of what is said of a list of readings; where it is given, the word is short
 abbrev PlacedSaid : List ℕ → Said → Type 0

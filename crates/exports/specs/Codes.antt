@@ -22,6 +22,8 @@ use Rattle.progressive.specs.declared.entry.Supported.the-variants as supports
 use Rattle.listing.specs.Texts.{listingRoom}
 use Rattle.analysis.specs.declared.entry.Has.{Has}
 use Rattle.analysis.specs.declared.entry.Has.the-variants as has
+use Rattle.analysis.specs.declared.entry.Visits.{Visits}
+use Rattle.analysis.specs.declared.entry.Visits.the-variants as visits
 use Rattle.roots.specs.declared.entries.KnownAnswer.{KnownAnswer}
 use Rattle.roots.specs.declared.entries.KnownAnswer.the-variants as known
 use Rattle.origin.specs.Decisions.{none}
@@ -76,6 +78,11 @@ hasCode (has.Refused r) = refusalCode r
 abbrev pub knownCode : KnownAnswer → ℕ
 knownCode (known.Known b) = answered (bit b)
 knownCode (known.Refused r) = refusalCode r
+
+-- the pieces visited
+abbrev pub visitsCode : Visits → ℕ
+visitsCode (visits.Given n) = answered n
+visitsCode (visits.Refused r) = refusalCode r
 
 -- how much was written, or why nothing was
 abbrev pub writtenCode : Written → ℕ

@@ -39,6 +39,7 @@ pub mod parts;
 pub mod rows;
 pub mod surface;
 pub mod tokens;
+pub mod visits;
 
 // A refusal as a number: its own number in the lowest byte, and above it the place that comes with it.
 pub(crate) fn refusal_code(refusal: Refusal) -> u64

@@ -3,3 +3,4 @@ pub mod Derived
 pub mod Limits
 pub mod Owned
 pub mod Rejoined
+pub mod Visited

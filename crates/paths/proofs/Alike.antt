@@ -38,7 +38,7 @@ use Rattle.paths.proofs.Agreed.{sibling-same, progressive-same, support
 -- What is left of a part is a part.
 
 module _ (w : List ℕ) where
-  prefix-part : (piece : List ℕ) (row : ℕ) (left : List ℕ) → row < allForms → Part w piece → prefixRemainder piece (formOf row) ≡ left ∷ [] → Part w left
+  pub prefix-part : (piece : List ℕ) (row : ℕ) (left : List ℕ) → row < allForms → Part w piece → prefixRemainder piece (formOf row) ≡ left ∷ [] → Part w left
   prefix-part piece row left h t e =
       let s = prefix-says piece (formOf row) left e in
       back-part w piece (formOf row) left (ap (λ (l : List ℕ). formOf row ++ l) (s .1) ∙ sym (begins-front (formOf row) piece (s .0)))

@@ -26,3 +26,7 @@ pub mod Keys
 pub mod Stated
 pub mod Promises
 pub mod Joins
+pub mod Totals
+pub mod Few
+pub mod Weighed
+pub mod Revisited

@@ -26,6 +26,9 @@ use Rattle.paths.proofs.Unique.{strips-unique}
 use Rattle.paths.proofs.Over as counted
 use Rattle.paths.proofs.Score.{path-score}
 use Rattle.paths.proofs.Alike as questions
+use Rattle.paths.specs.Visits.{visitsOf}
+use Rattle.paths.proofs.Few.{visits-few}
+use Rattle.paths.proofs.Revisited.{visits-alike}
 
 -- what the walk collects for the word w
 abbrev pub collected : Ask → List ℕ → Rows
@@ -99,3 +102,17 @@ joined w r c =
 pub same-answer : (s t w : List ℕ) → isUtf8 w ≡ true → ((letter : ℕ) (name : List ℕ) → Own (reply s) w letter name → Alike s t letter name)
     → collected (reply s) w ≡ collected (reply t) w
 same-answer s t w u h = ap (plusAll w (rows [])) (questions.sheets-alike s t w u h (chars w))
+
+-- the number of pieces visited never passes 5,000, whatever is replied: it is at most 3,712
+pub few-visits : (ask : Ask) (w : List ℕ) → visitsOf ask w ≤ 5000
+few-visits ask w = let h = visits-few ask w in omega arith
+
+-- the empty word is not entered
+pub nothing-visited : (ask : Ask) → visitsOf ask [] ≡ 0
+unfolding visitsOf
+nothing-visited ask = refl
+
+-- and two sheets alike in their replies to the word's own questions give the same number
+pub same-visits : (s t w : List ℕ) → isUtf8 w ≡ true → ((letter : ℕ) (name : List ℕ) → Own (reply s) w letter name → Alike s t letter name)
+    → visitsOf (reply s) w ≡ visitsOf (reply t) w
+same-visits s t w u h = visits-alike s t w u h

@@ -6,5 +6,7 @@ pub mod Rank
 pub mod Counted
 pub mod Questions
 pub mod Recomposed
+pub mod Visits
 -- Machinery: what contracts inside say on the way. Whoever reads the promises need not read it.
 pub mod Walk
+pub mod Weighed

@@ -22,9 +22,16 @@ pub struct Prefixes {
 }
 
 // Where the walk is: at the piece that is the word's first `end` bytes, with the suffixes stripped behind it; of it, the first `rows`
-// rows may be stripped next.
+// rows may be stripped next. So many `times` the source's strips lead to it.
 pub struct Piece {
     pub end: usize,
     pub chain: Chain,
     pub rows: u8,
+    pub times: u8,
+}
+
+// What the walk hands back: how many readings are kept, and how many entries of the source's walk were counted.
+pub struct Tally {
+    pub kept: usize,
+    pub visits: usize,
 }

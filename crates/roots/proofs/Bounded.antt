@@ -16,6 +16,7 @@ use Rattle.text.specs.Characters.{opens, chars}
 use Rattle.tables.specs.Rows.{prefixForms, suffixes}
 use Rattle.tables.proofs.Facts.{suffix-count, prefix-form-count}
 use Rattle.tables.proofs.Matches.{two-suffixes, two-prefix-forms}
+use Rattle.tables.proofs.Passing.{passing, two}
 use Rattle.sheet.specs.Replies.{Ask, lettersBy, reply}
 use Rattle.sheet.specs.Inputs.{inputsOf}
 use Rattle.sheet.specs.declared.inputs.Inputs.{Inputs}
@@ -34,38 +35,6 @@ use Rattle.roots.specs.Candidates.{isKnown, candidateBy, keptBy, keptOf,
 use Rattle.roots.specs.Answers.{rootsIf, rootsFor}
 use Rattle.roots.proofs.Offered.{held-append}
 use Rattle.roots.specs.declared.RootCandidate.{RootCandidate}
-
--- How many rows pass a test, where no three do.
-
-module _ {A : Type 0} (f : A → Bool) (d : A) where
-  abbrev pub passing : List A → ℕ
-  passing [] = 0
-  passing (x ∷ xs) = pick (f x) 1 0 + passing xs
-
-  none : (xs : List A) → ((i : ℕ) → i < length xs → f (getD xs i d) ≡ true → ⊥) → passing xs ≤ 0
-  none [] h = omega arith
-  none (x ∷ xs) h = by (f x) refl (none xs (λ i l e. h (suc i) (omega arith) e))
-    where
-      by : (b : Bool) → f x ≡ b → passing xs ≤ 0 → pick b 1 0 + passing xs ≤ 0
-      by true e n = absurd (h 0 (omega arith) e)
-      by false e n = omega arith
-
-  one : (xs : List A) → ((i j : ℕ) → i < j → j < length xs → f (getD xs i d) ≡ true → f (getD xs j d) ≡ true → ⊥) → passing xs ≤ 1
-  one [] h = omega arith
-  one (x ∷ xs) h = by (f x) refl (one xs (λ i j l m e g. h (suc i) (suc j) (omega arith) (omega arith) e g))
-    where
-      by : (b : Bool) → f x ≡ b → passing xs ≤ 1 → pick b 1 0 + passing xs ≤ 1
-      by true e n = let z = none xs (λ i l g. h 0 (suc i) (omega arith) (omega arith) e g) in omega arith
-      by false e n = omega arith
-
-  pub two : (xs : List A)
-      → ((i j k : ℕ) → i < j → j < k → k < length xs → f (getD xs i d) ≡ true → f (getD xs j d) ≡ true → f (getD xs k d) ≡ true → ⊥) → passing xs ≤ 2
-  two [] h = omega arith
-  two (x ∷ xs) h = by (f x) refl (two xs (λ i j k l m n a b c. h (suc i) (suc j) (suc k) (omega arith) (omega arith) (omega arith) a b c))
-    where
-      by : (b : Bool) → f x ≡ b → passing xs ≤ 2 → pick b 1 0 + passing xs ≤ 2
-      by true e n = let z = one xs (λ i j l m a b. h 0 (suc i) (suc j) (omega arith) (omega arith) (omega arith) e a b) in omega arith
-      by false e n = omega arith
 
 -- Remainders under one suffix: none, or two at most.
 

@@ -4,3 +4,4 @@ pub mod Tested
 pub mod Listed
 pub mod Facts
 pub mod Matches
+pub mod Passing

@@ -56,7 +56,7 @@ pub fn put_decimal(out: &mut [u8], at: usize, n: usize) -> usize
 }
 
 // Puts the line of a refusal: its number, and the place that comes with it.
-fn put_numbers(out: &mut [u8], at: usize, numbers: Numbers) -> usize
+pub fn put_numbers(out: &mut [u8], at: usize, numbers: Numbers) -> usize
     ensures { λ r. ⌜ Wrote (now (out .entry)) (now (out .exit)) at r (refusedText (numbersTold numbers)) ⌝ }
 {
     let a = put(out, at, b"(refused ");

@@ -27,6 +27,7 @@ fn asked(word: &[u8], sheet: &[u8]) -> Answers {
         said(yunthirel::has_supported_progressive_form(word, sheet), |yes| texts::yes_or_no("has_progressive", yes)),
         said(yunthirel::classify_with_provenance(word, sheet), texts::origin),
         said(yunthirel::classify(word, sheet), texts::classify),
+        visits(word, sheet),
     ]
 }
 
@@ -37,4 +38,18 @@ fn said<T>(answer: Result<T, Refusal>, text: impl FnOnce(T) -> String) -> String
 fn listing(word: &[u8], sheet: &[u8]) -> String {
     let mut out = vec![0; yunthirel::raw::LISTING_ROOM];
     said(yunthirel::write_readings(word, sheet, &mut out), |size| text_of(&out[..size]))
+}
+
+/// The number by itself, which the number beside the list must be.
+fn visits(word: &[u8], sheet: &[u8]) -> String {
+    let alone = yunthirel::visits(word, sheet);
+    match (yunthirel::analyze_affixes_with_visits(word, sheet), alone) {
+        (Ok(counted), Ok(number))
+            if counted.visits == number && counted.readings == yunthirel::analyze_affixes(word, sheet) =>
+        {
+            texts::visits(number)
+        }
+        (Err(refusal), Err(other)) if refusal == other => texts::refused(refusal),
+        (counted, alone) => format!("no answer: {counted:?} beside {alone:?}"),
+    }
 }

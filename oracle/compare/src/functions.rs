@@ -26,6 +26,7 @@ pub struct Functions {
     pub has_progressive: Ask,
     pub origin: Ask,
     pub confidence: fn(&[u8], &[u8]) -> f32,
+    pub visits: Ask,
 }
 
 pub const LIBRARY: Functions = Functions {
@@ -42,6 +43,7 @@ pub const LIBRARY: Functions = Functions {
     has_progressive: raw::has_progressive,
     origin: raw::origin,
     confidence: raw::confidence,
+    visits: raw::visits,
 };
 
 pub fn answers(functions: &Functions, case: &Case) -> Answers {
@@ -64,6 +66,7 @@ pub fn answers(functions: &Functions, case: &Case) -> Answers {
         yes_or_no("has_progressive", (functions.has_progressive)(word, sheet)),
         origin,
         classify,
+        visits((functions.visits)(word, sheet)),
     ]
 }
 
@@ -82,6 +85,10 @@ fn yes_or_no(question: &str, code: u64) -> String {
         raw::YES => texts::yes_or_no(question, true),
         _ => refused(code),
     }
+}
+
+fn visits(code: u64) -> String {
+    if raw::number(code) == 0 { texts::visits(raw::above(code)) } else { refused(code) }
 }
 
 /// The rows of an answer, each read by `of_row`; else the text of a refusal, or of what is wrong.

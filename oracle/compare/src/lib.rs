@@ -20,7 +20,7 @@ use blocks::Case;
 use functions::LIBRARY;
 
 /// What is asked, in the order of an answer's texts.
-pub const NAMES: [&str; 14] = [
+pub const NAMES: [&str; 15] = [
     "check_word",
     "check_sheet",
     "readings",
@@ -35,6 +35,7 @@ pub const NAMES: [&str; 14] = [
     "has_progressive",
     "origin",
     "classify",
+    "visits",
 ];
 
 /// The answers to all questions.
@@ -94,4 +95,5 @@ pub const QUESTIONS: &[Question] = &[
     Question::at::<11>(),
     Question::at::<12>(),
     Question::at::<13>(),
+    Question::at::<14>(),
 ];

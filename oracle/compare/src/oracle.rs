@@ -43,6 +43,8 @@ pub fn answers(case: &Case) -> Answers {
                 has_progressive,
                 origin,
                 classify,
+                // By a copy of the source that counts, also where the list is refused with 7.
+                texts::visits(answers::with_sheet(&forms, || shabda_visits::visits(word))),
             ]
         }
         // The word's numbers are the lower ones.

@@ -21,6 +21,11 @@ pub fn refused(refusal: Refusal) -> String {
     }
 }
 
+/// How many pieces are visited.
+pub fn visits(number: usize) -> String {
+    format!("visits {number}")
+}
+
 pub fn listing(readings: &[Reading]) -> String {
     let mut text = format!("(list {})", readings.len());
     for reading in readings {

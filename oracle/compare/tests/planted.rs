@@ -53,11 +53,36 @@ fn yes(code: u64, from: u64, to: u64) -> u64 {
     if code == from { to } else { code }
 }
 
+/// The number of pieces visited, changed where there is one.
+fn visited(word: &[u8], sheet: &[u8], change: impl Fn(u64) -> u64) -> u64 {
+    let code = raw::visits(word, sheet);
+    if raw::number(code) == 0 { change(code) } else { code }
+}
+
 #[test]
 fn wrong_codes() {
-    let plants: [(&[&str], Functions); 14] = [
+    let plants: [(&[&str], Functions); 17] = [
         (&["check_word"], Functions { check_word: |word| other(raw::check_word(word), 3, 2), ..LIBRARY }),
         (&["check_sheet"], Functions { check_sheet: |sheet| other(raw::check_sheet(sheet), 6, 5), ..LIBRARY }),
+        // One entry more, 7 in the number's place, and the empty word entered.
+        (&["visits"], Functions { visits: |word, sheet| visited(word, sheet, |code| code + (1 << 8)), ..LIBRARY }),
+        (
+            &["visits"],
+            Functions {
+                visits: |word, sheet| match raw::has_analysis(word, sheet) {
+                    7 => 7,
+                    _ => raw::visits(word, sheet),
+                },
+                ..LIBRARY
+            },
+        ),
+        (
+            &["visits"],
+            Functions {
+                visits: |word, sheet| visited(word, sheet, |code| if word.is_empty() { 8 << 8 } else { code }),
+                ..LIBRARY
+            },
+        ),
         // The place of the line after the faulty one.
         (
             &["check_sheet"],

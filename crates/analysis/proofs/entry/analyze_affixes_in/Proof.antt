@@ -4,9 +4,11 @@ use borrow.Author.Needs.{needs}
 use mathlib.Core.Path.{_≡_, sym, ap, _∙_}
 use mathlib.Core.List.{List}
 use lib.ListN.{length}
+use Rattle.sheet.specs.Replies.{reply}
+use Rattle.paths.specs.Visits.{visitsOf}
 use Rattle.sheet.specs.declared.inputs.Inputs.{Inputs}
 use Rattle.lookup.proofs.Readied.{said-indexed, word-said}
-use Rattle.analysis.specs.Answers.{collected, saidBy, rowsBy, saidOf, rowsGiven}
+use Rattle.analysis.specs.Answers.{collected, saidBy, rowsBy, saidOf, rowsGiven, visitsBy, visitsGiven}
 use Rattle.analysis.proofs.entry.analyze_affixes_in.Statement.{statement}
 use Rattle.analysis.proofs.entry.analyze_affixes_in.Tie as tie
 
@@ -29,6 +31,10 @@ module _ (c : tie.After-prepare-word) where
   unfolding rowsGiven
   rows-by x e = ap (λ (i : Inputs). rowsBy i (collected w s)) (sym e ∙ c .prepare-word .ensures ∙ said-indexed w s (c .before .before .before .before .pre .accepted))
 
+  visits-by : (x : Inputs) → c .prepare-word .result ≡ x → visitsBy x (visitsOf (reply s) w) ≡ visitsGiven w s
+  unfolding visitsGiven
+  visits-by x e = ap (λ (i : Inputs). visitsBy i (visitsOf (reply s) w)) (sym e ∙ c .prepare-word .ensures ∙ said-indexed w s (c .before .before .before .before .pre .accepted))
+
 enum-known-inputs : tie.Need-enum-known-inputs
 enum-known-inputs c = search needs
 
@@ -48,14 +54,14 @@ returns c =
     let i = c .before .before in
     let k = i .before .before in
     let r = rows-by k _ (i .inputs .given .1) in
-    (c .refused .ensures .0 ∙ said-by k _ (i .inputs .given .1), c .refused .ensures .1 ∙ r, c .refused .ensures .2 ∙ ap length r)
+    (c .refused .ensures .0 ∙ said-by k _ (i .inputs .given .1), c .refused .ensures .1 ∙ r, c .refused .ensures .2 ∙ ap length r, c .refused .ensures .3 ∙ visits-by k _ (i .inputs .given .1))
 
 returns-2 : tie.Need-returns-2
 returns-2 c =
     let e = c .before in
     let k = e .before .before in
     let r = rows-by k _ (e .enum-told .given .1) in
-    (c .listed .ensures .0 ∙ said-by k _ (e .enum-told .given .1), c .listed .ensures .1 ∙ r, c .listed .ensures .2 ∙ ap length r)
+    (c .listed .ensures .0 ∙ said-by k _ (e .enum-told .given .1), c .listed .ensures .1 ∙ r, c .listed .ensures .2 ∙ ap length r, c .listed .ensures .3 ∙ visits-by k _ (e .enum-told .given .1))
 
 pub analyze-affixes-in-spec : {M : Type 1} → statement M
 analyze-affixes-in-spec =

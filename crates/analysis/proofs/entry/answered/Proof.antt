@@ -7,9 +7,11 @@ use mathlib.Core.List.{List}
 use lib.ListN.{length}
 use lib.Seq.{length-take-le}
 use Rattle.sheet.specs.Inputs.{inputsOf}
+use Rattle.sheet.specs.Replies.{reply}
+use Rattle.paths.specs.Visits.{visitsOf}
 use Rattle.sheet.specs.declared.inputs.Inputs.{Inputs}
 use Rattle.lookup.proofs.Readied.{said-refused, indexed}
-use Rattle.analysis.specs.Answers.{collected, saidBy, rowsBy, saidOf, rowsGiven}
+use Rattle.analysis.specs.Answers.{collected, saidBy, rowsBy, saidOf, rowsGiven, visitsBy, visitsGiven}
 use Rattle.analysis.proofs.entry.answered.Statement.{statement}
 use Rattle.analysis.proofs.entry.answered.Tie as tie
 
@@ -31,6 +33,10 @@ module _ (c : tie.After-prepare-sheet) where
   rows-by : (x : Inputs) → x ≡ inputsOf w s → rowsBy x (collected w s) ≡ rowsGiven w s
   unfolding rowsGiven
   rows-by x e = ap (λ (i : Inputs). rowsBy i (collected w s)) e
+
+  visits-by : (x : Inputs) → x ≡ inputsOf w s → visitsBy x (visitsOf (reply s) w) ≡ visitsGiven w s
+  unfolding visitsGiven
+  visits-by x e = ap (λ (i : Inputs). visitsBy i (visitsOf (reply s) w)) e
 
 enum-known-inputs : tie.Need-enum-known-inputs
 enum-known-inputs c = search needs
@@ -72,7 +78,7 @@ returns c =
     let k = i .before .before .before .before in
     let e = said-refused (w k) (s k) (k .prepare-sheet .result .inputs) _ _ (k .prepare-sheet .ensures .said) (i .inputs .given .1) (f .first-refusal .ensures) in
     let r = rows-by k _ e in
-    (c .refused .ensures .0 ∙ said-by k _ e, c .refused .ensures .1 ∙ r, c .refused .ensures .2 ∙ ap length r)
+    (c .refused .ensures .0 ∙ said-by k _ e, c .refused .ensures .1 ∙ r, c .refused .ensures .2 ∙ ap length r, c .refused .ensures .3 ∙ visits-by k _ e)
 
 returns-2 : tie.Need-returns-2
 returns-2 c = search needs

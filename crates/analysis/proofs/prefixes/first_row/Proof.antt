@@ -23,6 +23,8 @@ use Rattle.analysis.specs.Places.{between, rootFound}
 use Rattle.analysis.proofs.Cuts.{front-none, front-left, root-at}
 use Rattle.analysis.proofs.Turns.{second-none, second-bare, second-some}
 use Rattle.analysis.proofs.Opened.{no-forms}
+use Rattle.paths.specs.Visits.{total, prefixVisits}
+use Rattle.analysis.proofs.Visited.{left-none, left-one, prefix-none, prefix-bare, prefix-some, second-few}
 use borrow.Author.Needs.{needs}
 use borrow.Author.Tests.{not-true}
 use Rattle.analysis.proofs.prefixes.first_row.Statement.{statement}
@@ -99,6 +101,7 @@ returns-3 c =
       sym (ap (λ (l : List (List ℕ)). plusAll (a .word .now) (keptOf (a .out .now) (a .n)) (onLeft (secondWalk (reply (a .sheet .now)) (a .surface) (a .at .chain) (take (a .at .end) (a .word .now)) (a .first)) l))
           (front-none (a .word .now) (a .at .end) (formOf (a .first)) (sym (c .enum-told .given .1) ∙ asked p))),
       start p .pre .5 .1,
+      left-none (prefixVisits 1 (reply (a .sheet .now))) (piece p) (formOf (a .first)) (front-none (a .word .now) (a .at .end) (formOf (a .first)) (sym (c .enum-told .given .1) ∙ asked p)),
     )
 
 -- the prefix's own reading is kept, and the rest of the walk begins at what it leaves
@@ -129,6 +132,14 @@ module _ (c : tie.After-with-root) where
       e ∙ sym (ap (λ (l : List (List ℕ)). plusAll (a .word .now) (keptOf (a .out .now) (a .n)) (onLeft (secondWalk (reply (a .sheet .now)) (a .surface) (a .at .chain) (take (a .at .end) (a .word .now)) (a .first)) l))
       (front-left (a .word .now) (a .at .end) (formOf (a .first)) (from-rest .rest .given .0 .0) (sym (from-rest .rest .given .1) ∙ asked at-strip)))
 
+  -- and so is what is counted there
+  counted : {v : ℕ} → v ≡ prefixVisits 1 (reply (begun .args .sheet .now)) rest
+      → let a = begun .args in v ≡ total (prefixVisits 1 (reply (a .sheet .now))) (prefixRemainder (take (a .at .end) (a .word .now)) (formOf (a .first)))
+  counted {v} e =
+      let a = begun .args in
+      left-one (prefixVisits 1 (reply (a .sheet .now))) (take (a .at .end) (a .word .now)) (formOf (a .first)) rest v
+      (front-left (a .word .now) (a .at .end) (formOf (a .first)) (from-rest .rest .given .0 .0) (sym (from-rest .rest .given .1) ∙ asked at-strip)) e
+
 returns : tie.Need-returns
 returns c =
     let w = c .before .before .before in
@@ -136,6 +147,7 @@ returns c =
       whole w (second-none (reply (a .sheet .now)) (a .surface) (a .at .chain) (a .word .now) (take (a .at .end) (a .word .now)) (a .first) (rest w) _ _ (own w (w .with-root .ensures .0))
           (sym (w .before .before .has-supported-progressive-form .ensures) ∙ c .if1 .taken)),
       w .with-root .ensures .1,
+      counted w (prefix-none 0 (reply (a .sheet .now)) (rest w) (sym (w .before .before .has-supported-progressive-form .ensures) ∙ c .if1 .taken)),
     )
 
 sub-may-begin : tie.Need-sub-may-begin
@@ -159,6 +171,7 @@ returns-2 c =
           (sym (w .before .before .has-supported-progressive-form .ensures) ∙ e .if1 .left)
           (λ f. no-forms f (rest w) (sym (c .before .may-begin .ensures) ∙ not-true _ (c .if2 .taken)) 0 allForms (omega arith))),
       w .with-root .ensures .1,
+      counted w (prefix-bare 0 (reply (a .sheet .now)) (rest w) (sym (c .before .may-begin .ensures) ∙ not-true _ (c .if2 .taken))),
     )
 
 second-rows-requires : tie.Need-second-rows-requires
@@ -167,18 +180,25 @@ second-rows-requires c κs =
     let a = begun w .pre in
     (a .0, inside (from-rest w), a .1, a .3, a .4, (search needs, w .with-root .ensures .1))
 
+add-t25 : tie.Need-add-t25
+add-t25 c =
+    let r = c .before .before .before in
+    let w = r .before .before .before .before .before .before .before .before in
+    omega (arith, r .second-rows .ensures .2, second-few (reply (begun w .args .sheet .now)) (rest w))
+
 returns-4 : tie.Need-returns-4
 returns-4 c =
-    let r = c .before .before in
+    let r = c .before .before .before in
     let e = r .before .before .before .before .before in
     let w = e .before .before .before in
     let a = begun w .args in (
       whole w (second-some (reply (a .sheet .now)) (a .surface) (a .at .chain) (a .word .now) (take (a .at .end) (a .word .now)) (a .first) (rest w) _ _ (own w (w .with-root .ensures .0)) _
           (sym (w .before .before .has-supported-progressive-form .ensures) ∙ e .if1 .left) (r .second-rows .ensures .0)),
       r .second-rows .ensures .1,
+      counted w (prefix-some 0 (reply (a .sheet .now)) (rest w) _ (sym (w .before .before .has-supported-progressive-form .ensures) ∙ e .if1 .left) (r .second-rows .ensures .2)),
     )
 
 pub first-row-spec : {M : Type 1} → statement M
 first-row-spec =
     tie.close
-    (tie.spec row-requires slice-aggregate-prefix-rest prefix-rest-requires enum-told enum-known-rest sub-has-supported-progressive-form part-has-supported-progressive-form-start part-has-supported-progressive-form-end has-supported-progressive-form-requires with-root-requires same-length returns sub-may-begin part-may-begin-start part-may-begin-end may-begin-requires same-length-2 returns-2 second-rows-requires returns-3 same-length-3 returns-4)
+    (tie.spec row-requires slice-aggregate-prefix-rest prefix-rest-requires enum-told enum-known-rest sub-has-supported-progressive-form part-has-supported-progressive-form-start part-has-supported-progressive-form-end has-supported-progressive-form-requires with-root-requires same-length returns sub-may-begin part-may-begin-start part-may-begin-end may-begin-requires same-length-2 returns-2 second-rows-requires add-t25 returns-3 same-length-3 returns-4)

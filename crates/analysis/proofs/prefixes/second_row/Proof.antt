@@ -19,6 +19,8 @@ use Rattle.paths.specs.Chains.{formOf}
 use Rattle.paths.specs.Walk.{rootWalk, onLeft}
 use Rattle.analysis.specs.Places.{between}
 use Rattle.analysis.proofs.Cuts.{none-left, one-left, root-at, between-length}
+use Rattle.paths.specs.Visits.{prefixVisits}
+use Rattle.analysis.proofs.Visited.{left-none, left-one, prefix-last}
 use borrow.Author.Needs.{needs}
 use Rattle.analysis.proofs.prefixes.second_row.Statement.{statement}
 use Rattle.analysis.proofs.prefixes.second_row.Tie as tie
@@ -97,6 +99,7 @@ returns c =
       sym (ap (λ (l : List (List ℕ)). plusAll (a .word .now) (keptOf (a .out .now) (a .n)) (onLeft (rootWalk (reply (a .sheet .now)) (a .surface) (a .at .chain) (take (a .at .end) (a .word .now)) (a .first ∷ a .second ∷ [])) l))
           (none-left (a .word .now) (a .«from») (a .at .end) (formOf (a .second)) (sym (c .enum-told .given .1) ∙ asked p))),
       start p .pre .6 .1,
+      left-none (prefixVisits 0 (reply (a .sheet .now))) (piece p) (formOf (a .second)) (none-left (a .word .now) (a .«from») (a .at .end) (formOf (a .second)) (sym (c .enum-told .given .1) ∙ asked p)),
     )
 
 returns-2 : tie.Need-returns-2
@@ -110,6 +113,8 @@ returns-2 c =
           ∙ sym (ap (λ (l : List (List ℕ)). plusAll (a .word .now) (keptOf (a .out .now) (a .n)) (onLeft (rootWalk (reply (a .sheet .now)) (a .surface) (a .at .chain) (take (a .at .end) (a .word .now)) (a .first ∷ a .second ∷ [])) l))
           (one-left (a .word .now) (a .«from») (a .at .end) (formOf (a .second)) (r .rest .given .0 .0) (sym (r .rest .given .1) ∙ asked p))),
       w .with-root .ensures .1,
+      left-one (prefixVisits 0 (reply (a .sheet .now))) (piece p) (formOf (a .second)) _ 1
+          (one-left (a .word .now) (a .«from») (a .at .end) (formOf (a .second)) (r .rest .given .0 .0) (sym (r .rest .given .1) ∙ asked p)) (prefix-last (reply (a .sheet .now)) _),
     )
 
 pub second-row-spec : {M : Type 1} → statement M

@@ -12,6 +12,7 @@ use Rattle.progressive.specs.Progressive.{isProgressive}
 use Rattle.ranking.specs.Lists.{Rows, plusAll}
 use Rattle.ranking.specs.Kept.{keptOf}
 use Rattle.paths.specs.Readings.{prefixesOf}
+use Rattle.analysis.proofs.Visited.{prefix-none, prefix-bare, prefix-some, first-few}
 use borrow.Author.Needs.{needs}
 use Rattle.paths.specs.Walk.{rootWalk}
 use Rattle.analysis.specs.Places.{rootFound}
@@ -64,7 +65,7 @@ returns : tie.Need-returns
 returns c =
     let w = c .before .before .before in
     let a = start w in
-    (stem-none (reply (a .args .sheet .now)) (a .args .surface) (a .args .at .chain) (a .args .word .now) (take (a .args .at .end) (a .args .word .now)) _ _ (own w (w .with-root .ensures .0)) (sym (a .pre .4) ∙ c .if1 .taken), w .with-root .ensures .1)
+    (stem-none (reply (a .args .sheet .now)) (a .args .surface) (a .args .at .chain) (a .args .word .now) (take (a .args .at .end) (a .args .word .now)) _ _ (own w (w .with-root .ensures .0)) (sym (a .pre .4) ∙ c .if1 .taken), w .with-root .ensures .1, prefix-none 1 (reply (a .args .sheet .now)) (take (a .args .at .end) (a .args .word .now)) (sym (a .pre .4) ∙ c .if1 .taken))
 
 slice-aggregate-may-begin : tie.Need-slice-aggregate-may-begin
 slice-aggregate-may-begin c = let a = start (c .before .before .before .before) in sym (length-take-le (a .args .at .end) (a .args .word .now) (a .pre .1))
@@ -80,6 +81,7 @@ returns-2 c =
       stem-bare (reply (a .args .sheet .now)) (a .args .surface) (a .args .at .chain) (a .args .word .now) (take (a .args .at .end) (a .args .word .now)) _ _ (own w (w .with-root .ensures .0)) (sym (a .pre .4) ∙ e .if1 .left)
           (λ f. no-forms f (take (a .args .at .end) (a .args .word .now)) (sym (c .before .may-begin .ensures) ∙ not-true _ (c .if2 .taken)) 0 allForms (omega arith)),
       w .with-root .ensures .1,
+      prefix-bare 1 (reply (a .args .sheet .now)) (take (a .args .at .end) (a .args .word .now)) (sym (c .before .may-begin .ensures) ∙ not-true _ (c .if2 .taken)),
     )
 
 first-rows-requires : tie.Need-first-rows-requires
@@ -88,14 +90,20 @@ first-rows-requires c κs =
     let p = start w .pre in
     (p .0, p .1, p .2, p .3, (search needs, w .with-root .ensures .1))
 
+add-t26 : tie.Need-add-t26
+add-t26 c =
+    let r = c .before .before .before in
+    let a = start (r .before .before .before .before .before .before .before .before) in
+    omega (arith, r .first-rows .ensures .2, first-few (reply (a .args .sheet .now)) (take (a .args .at .end) (a .args .word .now)))
+
 returns-3 : tie.Need-returns-3
 returns-3 c =
-    let r = c .before .before in
+    let r = c .before .before .before in
     let e = r .before .before .before .before .before in
     let w = e .before .before .before in
     let a = start w in
-    (stem-some (reply (a .args .sheet .now)) (a .args .surface) (a .args .at .chain) (a .args .word .now) (take (a .args .at .end) (a .args .word .now)) _ _ (own w (w .with-root .ensures .0)) _ (sym (a .pre .4) ∙ e .if1 .left) (r .first-rows .ensures .0), r .first-rows .ensures .1)
+    (stem-some (reply (a .args .sheet .now)) (a .args .surface) (a .args .at .chain) (a .args .word .now) (take (a .args .at .end) (a .args .word .now)) _ _ (own w (w .with-root .ensures .0)) _ (sym (a .pre .4) ∙ e .if1 .left) (r .first-rows .ensures .0), r .first-rows .ensures .1, prefix-some 1 (reply (a .args .sheet .now)) (take (a .args .at .end) (a .args .word .now)) _ (sym (a .pre .4) ∙ e .if1 .left) (r .first-rows .ensures .2))
 
 pub with-stem-spec : {M : Type 1} → statement M
 with-stem-spec =
-    tie.close (tie.spec with-root-requires same-length returns slice-aggregate-may-begin may-begin-requires same-length-2 returns-2 first-rows-requires same-length-3 returns-3)
+    tie.close (tie.spec with-root-requires same-length returns slice-aggregate-may-begin may-begin-requires same-length-2 returns-2 first-rows-requires add-t26 same-length-3 returns-3)
