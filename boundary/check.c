@@ -308,6 +308,29 @@ static void origins(void) {
     CHECK(yunthirel_confidence(SLICE("("), SLICE("")) == 0.0f);
 }
 
+/* A sheet with one finding of each kind; a full one, whose report is as long as a report can be. */
+static void references(void) {
+    static uint32_t list[YUNTHIREL_LINES];
+    static uint8_t out[65536 + YUNTHIREL_REPORT_HEAD];
+    static char sheet[65537];
+    const char *three = "(k a (comp))\n(l खोजि (खोज्नु))\n(l गरि (गर्नु))\n(w खोज्नु (wh))\n";
+    struct yunthirel_code code = yunthirel_findings(SLICE(three), list, YUNTHIREL_LINES);
+    CHECK(yunthirel_number_of(code) == YUNTHIREL_ANSWERED && yunthirel_count_of(code) == 3);
+    CHECK(yunthirel_fault_of(list[0]) == YUNTHIREL_UNUSED && yunthirel_line_of(list[0]) == 0);
+    CHECK(yunthirel_fault_of(list[1]) == YUNTHIREL_NOT_VERB && yunthirel_line_of(list[1]) == 13);
+    CHECK(yunthirel_fault_of(list[2]) == YUNTHIREL_MISSING && yunthirel_line_of(list[2]) == (size_t)(strstr(three, "(l गरि") - three));
+    CHECK(is(yunthirel_findings(SLICE(three), list, 2), YUNTHIREL_OUTPUT_TOO_SHORT));
+    code = yunthirel_references(SLICE(three), out, sizeof out);
+    CHECK(is_text(out, 0, yunthirel_count_of(code), "(check 3)\n(k a unused)\n(l खोजि notverb)\n(l गरि missing)\n"));
+    CHECK(is(yunthirel_references(SLICE("\n"), out, 0), YUNTHIREL_SHEET_NO_FORM));
+    for (size_t k = 0; k < 4096; k++) {
+        sprintf(sheet + 16 * k, "(k %04u (post))\n", (unsigned)k);
+    }
+    code = yunthirel_references((const uint8_t *)sheet, 65536, out, sizeof out);
+    CHECK(yunthirel_number_of(code) == YUNTHIREL_ANSWERED && yunthirel_count_of(code) == sizeof out);
+    CHECK(is(yunthirel_references((const uint8_t *)sheet, 65536, out, sizeof out - 1), YUNTHIREL_OUTPUT_TOO_SHORT));
+}
+
 static void tokens(void) {
     static struct yunthirel_token list[YUNTHIREL_TOKENS];
     static uint8_t text[65537];
@@ -348,6 +371,7 @@ int main(void) {
     known();
     forms();
     origins();
+    references();
     tokens();
     sizes();
     return failed;

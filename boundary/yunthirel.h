@@ -50,7 +50,7 @@ static inline size_t yunthirel_start_of(struct yunthirel_code code) {
     return (size_t)(code.bits >> 8);
 }
 
-/* How many readings, candidates, tokens or bytes of text there are, for a code whose number is 0. */
+/* How many readings, candidates, tokens, findings or bytes of text there are, for a code whose number is 0. */
 static inline size_t yunthirel_count_of(struct yunthirel_code code) {
     return (size_t)(code.bits >> 8);
 }
@@ -208,6 +208,34 @@ struct yunthirel_token {
 /* The text's tokens, in its order: `list` takes an array of struct yunthirel_token, and its length is in numbers, two for each. How many
  * there are; else a code whose number is 9, 2 or 10, and the list is as it was. */
 struct yunthirel_code yunthirel_tokens(const uint8_t *text, size_t text_len, uint32_t *list, size_t list_len);
+
+/* What the lines of a sheet refer to: the infinitive of a link is to have a `w` line with v, the suffix of a kind line to be one of the
+ * 25 texts. A finding is a line of which that does not hold, as a number: what is wrong, and the line's first byte in the sheet. */
+enum yunthirel_fault {
+    YUNTHIREL_MISSING = 1,  /* the infinitive has no `w` line */
+    YUNTHIREL_NOT_VERB = 2, /* its `w` line lacks v */
+    YUNTHIREL_UNUSED = 3    /* the suffix is none of the 25 texts */
+};
+
+static inline enum yunthirel_fault yunthirel_fault_of(uint32_t finding) {
+    return (enum yunthirel_fault)(finding & 0xFF);
+}
+
+static inline size_t yunthirel_line_of(uint32_t finding) {
+    return (size_t)(finding >> 8);
+}
+
+/* The most lines of a sheet: as many numbers are always enough for its findings. A report needs the sheet's bytes and these at most. */
+#define YUNTHIREL_LINES 6553
+#define YUNTHIREL_REPORT_HEAD 13
+
+/* The sheet's findings, in its order: `list` takes a number for each, and its length is in numbers. How many there are; else a code whose
+ * number is 4 to 6, or 8, and the list is as it was. */
+struct yunthirel_code yunthirel_findings(const uint8_t *sheet, size_t sheet_len, uint32_t *list, size_t list_len);
+
+/* The same as text, as the program `references` prints it, without a 0 at its end. The number of bytes (yunthirel_count_of); else a code
+ * whose number is 4 to 6, or 8. */
+struct yunthirel_code yunthirel_references(const uint8_t *sheet, size_t sheet_len, uint8_t *out, size_t out_len);
 
 #ifdef __cplusplus
 }

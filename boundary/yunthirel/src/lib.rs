@@ -21,7 +21,7 @@
 //!
 //! Functions and fields have the names of the Rust source that the library is a port of, except that its `AffixAnalysis` is
 //! [`Reading`] here. Left out are the fields `surface`, `suffixes` and `prefix_segments` of analyses, the kind `Prefix`, and the
-//! functions `is_documented`, `supported_origin` and `source_language`; [`check_word`], [`check_sheet`] and [`write_readings`] are
+//! functions `is_documented`, `supported_origin` and `source_language`; [`check_word`], [`check_sheet`], [`check_references`], [`write_references`] and [`write_readings`] are
 //! not the source's, nor are [`Reading::surface`], the mark `shared` of a segment and [`visits`]. Texts are parts of what was lent: stems and roots of the word, a lemma of the sheet.
 //!
 //! A code or row of the library that cannot be read as an answer makes this crate panic: then the archive and this crate do not
@@ -39,6 +39,7 @@ mod origin;
 mod progressive;
 pub mod raw;
 mod readings;
+mod references;
 mod refusal;
 mod roots;
 mod tokens;
@@ -50,6 +51,7 @@ pub use progressive::{ProgressiveAnalysis, analyze_progressive, has_supported_pr
 pub use readings::{
     AffixKind, AffixSegment, Reading, analyze_affixes, best_analysis, has_supported_analysis, write_readings,
 };
+pub use references::{Reference, check_references, write_references};
 pub use refusal::Refusal;
 pub use roots::{Morpheme, RootCandidate, best_root, decompose, has_known_root, lookup_root_candidates};
 pub use tokens::{Token, tokenize};

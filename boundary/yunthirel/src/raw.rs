@@ -28,6 +28,12 @@ pub const LISTING_ROOM: usize = 37_258;
 /// Numbers that are always enough for [`tokens`]: two for each of 16,384 tokens.
 pub const TOKENS_ROOM: usize = 2 * 16_384;
 
+/// Numbers that are always enough for [`findings`]: one for each line of a sheet.
+pub const MOST_LINES: usize = 6_553;
+
+/// Bytes that are always enough for [`references`], beside those of the sheet.
+pub const REPORT_HEAD: usize = 13;
+
 /// The number in a code's lowest byte.
 pub const fn number(code: u64) -> u8 {
     (code & 0xFF) as u8
@@ -97,6 +103,8 @@ mod foreign {
             out_len: usize,
         ) -> u64;
         pub fn yunthirel_visits(word: *const u8, word_len: usize, sheet: *const u8, sheet_len: usize) -> u64;
+        pub fn yunthirel_references(sheet: *const u8, sheet_len: usize, out: *mut u8, out_len: usize) -> u64;
+        pub fn yunthirel_findings(sheet: *const u8, sheet_len: usize, list: *mut u32, list_len: usize) -> u64;
         pub fn yunthirel_tokens(text: *const u8, text_len: usize, list: *mut u32, list_len: usize) -> u64;
     }
 }
@@ -201,4 +209,17 @@ pub fn decompose(word: &[u8], sheet: &[u8], out: &mut [u8]) -> u64 {
 pub fn tokens(text: &[u8], list: &mut [u32]) -> u64 {
     // SAFETY: as above; the list's length is in numbers, as the library has it.
     unsafe { foreign::yunthirel_tokens(text.as_ptr(), text.len(), list.as_mut_ptr(), list.len()) }
+}
+
+/// The refusal, 4 to 6 of the sheet and 8 for too short an `out`; else the number of bytes of the report in `out`.
+pub fn references(sheet: &[u8], out: &mut [u8]) -> u64 {
+    // SAFETY: as above.
+    unsafe { foreign::yunthirel_references(sheet.as_ptr(), sheet.len(), out.as_mut_ptr(), out.len()) }
+}
+
+/// The refusal, 4 to 6 of the sheet and 8 for too short a list; else how many lines of the sheet have a reference that does not hold, a
+/// number for each in `list`: what is wrong in the lowest byte (1 missing, 2 notverb, 3 unused), above it the line's first byte.
+pub fn findings(sheet: &[u8], list: &mut [u32]) -> u64 {
+    // SAFETY: as above; the list's length is in numbers, as the library has it.
+    unsafe { foreign::yunthirel_findings(sheet.as_ptr(), sheet.len(), list.as_mut_ptr(), list.len()) }
 }

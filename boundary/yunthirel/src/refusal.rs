@@ -120,6 +120,8 @@ impl fmt::Display for Refusal {
 
 impl std::error::Error for Refusal {}
 
+/// Numbers that a sheet can be refused with.
+pub(crate) const SHEETS: RangeInclusive<u8> = 4..=6;
 /// Numbers that a word and a sheet can be refused with.
 pub(crate) const INPUTS: RangeInclusive<u8> = 1..=6;
 /// The same, and more than 64 readings.

@@ -221,7 +221,7 @@ unfolding outcomeOf readingsText
 outcome-placed w s out h = by (saidOf w s) (said-placed w s) h
   where
     to : (b : Bool) (n : ℕ) → n ≤ listingRoom → Small (pick b (written.Wrote n) (written.Refused OutputTooShort))
-    to true n h = h
+    to true n h = omega arith
     to false n h = tt
 
     by : (x : Said) → PlacedSaid w x → length (saidText w x (rowsGiven w s)) ≤ listingRoom → Small (outcomeBy x (writtenOf (listingText w (rowsGiven w s)) out))

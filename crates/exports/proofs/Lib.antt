@@ -6,3 +6,4 @@ pub mod Places
 pub mod Readable
 pub mod Counted
 pub mod Surfaces
+pub mod Reported

@@ -86,7 +86,7 @@ surface-small w row out y h e = subst Small (sym e) (by (leb (length text) (leng
     text = surfaceText w (readingIn row)
 
     by : (b : Bool) → length text ≤ listingRoom → Small (pick b (written.Wrote (length text)) (written.Refused OutputTooShort))
-    by true n = n
+    by true n = omega arith
     by false n = tt
 
 -- what is done, by what is said of the word

@@ -89,9 +89,12 @@ abbrev pub writtenCode : Written → ℕ
 writtenCode (written.Wrote n) = answered n
 writtenCode (written.Refused r) = refusalCode r
 
--- the bytes, or the place of the faulty line, are small enough for the code
+-- the bytes or numbers written, or the place of the faulty line, are small enough for the code
+abbrev pub mostWritten : ℕ
+mostWritten = 1048576
+
 abbrev pub Small : Written → Type 0
-Small (written.Wrote n) = n ≤ listingRoom
+Small (written.Wrote n) = n ≤ mostWritten
 Small (written.Refused r) = Placed r
 
 abbrev pub originNumber : Origin → ℕ

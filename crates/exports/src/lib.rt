@@ -36,6 +36,7 @@ ghost use Rattle.listing.specs.Printed.{outcomeOf, leftOf};
 ghost use Rattle.exports.specs.Codes.{answered, wordCode, sheetCode, refusalCode, bit, formValue, progressiveCode, supportedCode, hasCode, knownCode, Small, writtenCode, originNumber, sourceNumber, originCode, confidenceOf};
 
 pub mod parts;
+pub mod references;
 pub mod rows;
 pub mod surface;
 pub mod tokens;

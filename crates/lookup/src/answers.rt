@@ -58,7 +58,7 @@ fn value_at(sheet: &[u8], line: Found) -> Spot
 
 // Where the value of the line for `letter` and the name that `p` and then `q` make stands in the sheet.
 // The sheet is accepted and `starts` is its list.
-pub(crate) fn value_of(sheet: &[u8], starts: &[Start], letter: u8, p: &[u8], q: &[u8]) -> Spot
+pub fn value_of(sheet: &[u8], starts: &[Start], letter: u8, p: &[u8], q: &[u8]) -> Spot
     requires { ⌜ Indexed (now sheet) (now starts) ⌝ }
     ensures { λ r. ⌜ ValueOf (now (sheet .entry)) letter (now (p .entry) ++ now (q .entry)) r ⌝ }
 {

@@ -6,6 +6,7 @@ pub mod limits;
 mod lines;
 mod pieces;
 mod random;
+pub mod referring;
 pub mod running;
 mod sheets;
 mod texts;

@@ -7,6 +7,7 @@ pub mod files;
 pub mod functions;
 pub mod options;
 pub mod oracle;
+pub mod references;
 pub mod run;
 mod texts;
 pub mod timing;
