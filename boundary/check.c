@@ -331,6 +331,23 @@ static void references(void) {
     CHECK(is(yunthirel_references((const uint8_t *)sheet, 65536, out, sizeof out - 1), YUNTHIREL_OUTPUT_TOO_SHORT));
 }
 
+/* A torn sheet with a cut of each kind; one of line feeds alone, whose report is as long as a report can be for its last lines. */
+static void rescues(void) {
+    static uint8_t kept[65536], report[65536 * YUNTHIREL_REPORT_BYTES], feeds[65537];
+    const char *torn = "(w aa (w))\n(w a (w))\n(w b (w))\nx";
+    struct yunthirel_code code = yunthirel_rescue(SLICE(torn), kept, sizeof kept, report, sizeof report);
+    CHECK(yunthirel_number_of(code) == YUNTHIREL_ANSWERED);
+    CHECK(is_text(kept, 0, yunthirel_kept_of(code), "(w aa (w))\n(w b (w))\n"));
+    CHECK(is_text(report, 0, yunthirel_report_of(code), "(cut 11 10 order)\n(cut 31 1 form)\n"));
+    CHECK(is(yunthirel_rescue(SLICE(torn), kept, 20, report, sizeof report), YUNTHIREL_OUTPUT_TOO_SHORT));
+    CHECK(is(yunthirel_rescue(SLICE(torn), kept, sizeof kept, report, 33), YUNTHIREL_OUTPUT_TOO_SHORT));
+    memset(feeds, '\n', sizeof feeds);
+    CHECK(is(yunthirel_rescue(feeds, sizeof feeds, kept, sizeof kept, report, sizeof report), YUNTHIREL_SHEET_TOO_LONG));
+    code = yunthirel_rescue(feeds, 65536, kept, 0, report, sizeof report);
+    CHECK(yunthirel_number_of(code) == YUNTHIREL_ANSWERED && yunthirel_kept_of(code) == 0);
+    CHECK(yunthirel_report_of(code) == 65536 * 15 + 10 + 2 * 90 + 3 * 900 + 4 * 9000 + 5 * 55536 - 65536);
+}
+
 static void tokens(void) {
     static struct yunthirel_token list[YUNTHIREL_TOKENS];
     static uint8_t text[65537];
@@ -372,6 +389,7 @@ int main(void) {
     forms();
     origins();
     references();
+    rescues();
     tokens();
     sizes();
     return failed;

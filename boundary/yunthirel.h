@@ -237,6 +237,22 @@ struct yunthirel_code yunthirel_findings(const uint8_t *sheet, size_t sheet_len,
  * whose number is 4 to 6, or 8. */
 struct yunthirel_code yunthirel_references(const uint8_t *sheet, size_t sheet_len, uint8_t *out, size_t out_len);
 
+/* Rescue of a torn sheet: each line that is a form and stands above the last kept one is written into `kept`, and for each other stretch a
+ * line `(cut START LENGTH form)` or `(cut START LENGTH order)` into `report`, without a 0 at its end. How many bytes each has
+ * (yunthirel_kept_of, yunthirel_report_of); else a code whose number is 4 or 8, and both are as they were. As many bytes as the sheet has are
+ * always enough for `kept`, YUNTHIREL_REPORT_BYTES times as many for `report`. */
+#define YUNTHIREL_REPORT_BYTES 19
+
+struct yunthirel_code yunthirel_rescue(const uint8_t *sheet, size_t sheet_len, uint8_t *kept, size_t kept_len, uint8_t *report, size_t report_len);
+
+static inline size_t yunthirel_kept_of(struct yunthirel_code code) {
+    return (size_t)(code.bits >> 8 & 0xFFFFFF);
+}
+
+static inline size_t yunthirel_report_of(struct yunthirel_code code) {
+    return (size_t)(code.bits >> 32);
+}
+
 #ifdef __cplusplus
 }
 #endif

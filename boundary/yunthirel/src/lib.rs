@@ -21,7 +21,7 @@
 //!
 //! Functions and fields have the names of the Rust source that the library is a port of, except that its `AffixAnalysis` is
 //! [`Reading`] here. Left out are the fields `surface`, `suffixes` and `prefix_segments` of analyses, the kind `Prefix`, and the
-//! functions `is_documented`, `supported_origin` and `source_language`; [`check_word`], [`check_sheet`], [`check_references`], [`write_references`] and [`write_readings`] are
+//! functions `is_documented`, `supported_origin` and `source_language`; [`check_word`], [`check_sheet`], [`check_references`], [`write_references`], [`rescue_sheet`] and [`write_readings`] are
 //! not the source's, nor are [`Reading::surface`], the mark `shared` of a segment and [`visits`]. Texts are parts of what was lent: stems and roots of the word, a lemma of the sheet.
 //!
 //! A code or row of the library that cannot be read as an answer makes this crate panic: then the archive and this crate do not
@@ -41,6 +41,7 @@ pub mod raw;
 mod readings;
 mod references;
 mod refusal;
+mod rescue;
 mod roots;
 mod tokens;
 mod visits;
@@ -53,6 +54,7 @@ pub use readings::{
 };
 pub use references::{Reference, check_references, write_references};
 pub use refusal::Refusal;
+pub use rescue::{Cut, Rescue, Why, rescue_sheet};
 pub use roots::{Morpheme, RootCandidate, best_root, decompose, has_known_root, lookup_root_candidates};
 pub use tokens::{Token, tokenize};
 pub use visits::{Counted, MOST_VISITS, analyze_affixes_with_visits, visits};

@@ -34,6 +34,12 @@ pub const MOST_LINES: usize = 6_553;
 /// Bytes that are always enough for [`references`], beside those of the sheet.
 pub const REPORT_HEAD: usize = 13;
 
+/// The most bytes of a sheet.
+pub const SHEET_LIMIT: usize = 65_536;
+
+/// Bytes of a report of [`rescue`] that are always enough for each byte of the sheet.
+pub const REPORT_BYTES: usize = 19;
+
 /// The number in a code's lowest byte.
 pub const fn number(code: u64) -> u8 {
     (code & 0xFF) as u8
@@ -105,6 +111,14 @@ mod foreign {
         pub fn yunthirel_visits(word: *const u8, word_len: usize, sheet: *const u8, sheet_len: usize) -> u64;
         pub fn yunthirel_references(sheet: *const u8, sheet_len: usize, out: *mut u8, out_len: usize) -> u64;
         pub fn yunthirel_findings(sheet: *const u8, sheet_len: usize, list: *mut u32, list_len: usize) -> u64;
+        pub fn yunthirel_rescue(
+            sheet: *const u8,
+            sheet_len: usize,
+            kept: *mut u8,
+            kept_len: usize,
+            report: *mut u8,
+            report_len: usize,
+        ) -> u64;
         pub fn yunthirel_tokens(text: *const u8, text_len: usize, list: *mut u32, list_len: usize) -> u64;
     }
 }
@@ -222,4 +236,22 @@ pub fn references(sheet: &[u8], out: &mut [u8]) -> u64 {
 pub fn findings(sheet: &[u8], list: &mut [u32]) -> u64 {
     // SAFETY: as above; the list's length is in numbers, as the library has it.
     unsafe { foreign::yunthirel_findings(sheet.as_ptr(), sheet.len(), list.as_mut_ptr(), list.len()) }
+}
+
+/// The refusal, 4 for a sheet over its limit and 8 for an output that is too short, and then neither is written; else the sizes of what
+/// was written, [`kept_size`] and [`report_size`].
+pub fn rescue(sheet: &[u8], kept: &mut [u8], report: &mut [u8]) -> u64 {
+    let (kept_at, report_at) = (kept.as_mut_ptr(), report.as_mut_ptr());
+    // SAFETY: as above, and neither of the two slices that are lent for writing is a part of the other or of the sheet.
+    unsafe { foreign::yunthirel_rescue(sheet.as_ptr(), sheet.len(), kept_at, kept.len(), report_at, report.len()) }
+}
+
+/// How many bytes the kept sheet has, by a code of [`rescue`] whose number is 0.
+pub const fn kept_size(code: u64) -> usize {
+    (code >> 8 & 0xFF_FFFF) as usize
+}
+
+/// How many bytes the report has, by the same code.
+pub const fn report_size(code: u64) -> usize {
+    (code >> 32) as usize
 }

@@ -7,3 +7,4 @@ pub mod Readable
 pub mod Counted
 pub mod Surfaces
 pub mod Reported
+pub mod Fitted

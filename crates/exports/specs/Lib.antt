@@ -3,3 +3,4 @@ pub mod Rows
 pub mod Filled
 pub mod Read
 pub mod Surface
+pub mod Rescue

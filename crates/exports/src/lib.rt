@@ -37,6 +37,7 @@ ghost use Rattle.exports.specs.Codes.{answered, wordCode, sheetCode, ref
 
 pub mod parts;
 pub mod references;
+pub mod rescue;
 pub mod rows;
 pub mod surface;
 pub mod tokens;

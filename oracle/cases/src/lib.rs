@@ -10,6 +10,7 @@ pub mod referring;
 pub mod running;
 mod sheets;
 mod texts;
+pub mod torn;
 mod words;
 
 pub use classes::{CLASSES, Class, of_length};

@@ -8,6 +8,7 @@ pub mod functions;
 pub mod options;
 pub mod oracle;
 pub mod references;
+pub mod rescue;
 pub mod run;
 mod texts;
 pub mod timing;
