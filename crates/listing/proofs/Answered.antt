@@ -25,28 +25,6 @@ use Rattle.refusals.specs.declared.Written.the-variants as written
 pub answer-as : {t u old new : List ℕ} {r : Written} → t ≡ u → Answer t old new r → length t ≤ listingRoom → Answer u old new r × (length u ≤ listingRoom)
 answer-as {old = old} {new = new} {r = r} e a l = subst (λ (x : List ℕ). Answer x old new r × (length x ≤ listingRoom)) e (a, l)
 
--- a buffer with room for the longest list is never too short
-module _ (text out new : List ℕ) (r : Written) (room : listingRoom ≤ length out) (a : Answer text out new r) (short : length text ≤ listingRoom) where
-  fits : leb (length text) (length out) ≡ true
-  fits = le-leb (length text) (length out) (omega arith)
-
-  pub whole : (n : ℕ) → r ≡ written.Wrote n → Whole text out new n
-  whole n g =
-      let b : r ≡ written.Wrote (length text) = rw fits at (a .given) in
-      let f : new ≡ text ++ drop (length text) out = rw fits at (a .left) in
-      let e : n ≡ length text = cc in
-      let all = f ∙ ap (λ (k : ℕ). text ++ drop k out) (sym e) in
-      let l = ap length all ∙ length-append text (drop n out) in
-      record {
-        size = e;
-        contents = all;
-        inside = omega arith;
-        counted = e ∙ ap length (sym (ap (take n) all ∙ take-at text (drop n out) n (sym e)));
-      }
-
-  pub never-short : (q : Refusal) → r ≡ written.Refused q → ⊥
-  never-short q g = let b : r ≡ written.Wrote (length text) = rw fits at (a .given) in let z : _≡_ {A = ℕ} 0 1 = cc in omega arith
-
 -- the program's input: too long, or a word and a sheet
 module _ (input : List ℕ) where
   pub printed-long : inputLimit < length input → refusedText (numbersOf SheetTooLong) ≡ printed input

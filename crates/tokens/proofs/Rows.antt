@@ -5,10 +5,7 @@ use native.Mathlib.Numerals.{add-one}
 use native.Mathlib.Omega.{arith}
 use mathlib.Core.Path.{_≡_, refl, sym, ap, subst, _∙_}
 use mathlib.Core.Logic.{_⊎_, inl, inr}
-use mathlib.Core.Bool.{true}
 use mathlib.Core.List.{List, [], _∷_, _++_, List·Memᴰ, List·Memᴰ·head, List·Memᴰ·tail}
-use lib.Dec.{leb}
-use borrow.Author.Tests.{le-leb}
 use lib.ListN.{length, take, drop, getD, length-append, drop-of-length-le}
 use lib.Seq.{length-take-le, drop-cons, getD-take, take-at}
 use Rattle.text.specs.Utf8.{isUtf8}
@@ -19,7 +16,6 @@ use Rattle.refusals.specs.declared.Written.the-variants.{Wrote, Refused}
 use Rattle.refusals.specs.Refusals.{number, numbersOf}
 use Rattle.writing.specs.Decimal.{decimal}
 use Rattle.writing.specs.Refused.{refusedText}
-use Rattle.writing.specs.Placed.{Answer, Whole}
 use Rattle.writing.proofs.Sizes.{count-size, number-size}
 use Rattle.tokenizer.specs.Tokens.{Span}
 use Rattle.tokenizer.specs.Scanned.{tokensOf}
@@ -113,31 +109,6 @@ by-answer s (Refused r) e = one-of (only-three s 32768 r e)
 pub printed-size : (s : List ℕ) → length (printed s) ≤ 262157
 unfolding printed
 printed-size s = by-answer s (tokenized s 32768) refl
-
--- a buffer with room for a text is never too short for it
-module _ (text out new : List ℕ) (r : Written) (room : length text ≤ length out) (a : Answer text out new r) where
-  fits : leb (length text) (length out) ≡ true
-  fits = le-leb (length text) (length out) room
-
-  pub whole : (n : ℕ) → r ≡ Wrote n → Whole text out new n
-  whole n g =
-      let b : r ≡ Wrote (length text) = rw fits at (a .given) in
-      let f : new ≡ text ++ drop (length text) out = rw fits at (a .left) in
-      let e : n ≡ length text = cc in
-      let all = f ∙ ap (λ (k : ℕ). text ++ drop k out) (sym e) in
-      let l = ap length all ∙ length-append text (drop n out) in
-      record {
-        size = e;
-        contents = all;
-        inside = omega arith;
-        counted = e ∙ ap length (sym (ap (take n) all ∙ take-at text (drop n out) n (sym e)));
-      }
-
-  pub never-short : (q : Refusal) → r ≡ Refused q → ⊥
-  never-short q g = let b : r ≡ Wrote (length text) = rw fits at (a .given) in let z : _≡_ {A = ℕ} 0 1 = cc in omega arith
-
-pub answer-as : {t u old new : List ℕ} {r : Written} → t ≡ u → Answer t old new r → Answer u old new r
-answer-as {old = old} {new = new} {r = r} e a = subst (λ (x : List ℕ). Answer x old new r) e a
 
 -- a list that holds tokens has room for them
 pub room-for : (s old list : List ℕ) (n : ℕ) → Wrote n ≡ tokenized s (length old) → list ≡ listed s old → 2 * n ≤ length list

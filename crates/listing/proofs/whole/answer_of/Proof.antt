@@ -3,7 +3,7 @@ use Prim.Native.Nat.{_≤_}
 use native.Mathlib.Omega.{arith}
 use borrow.Author.Needs.{needs}
 use Rattle.listing.specs.Printed.{readingsText, printed}
-use Rattle.listing.proofs.Answered.{whole, never-short}
+use Rattle.writing.proofs.Wholes.{whole, never-short}
 use Rattle.listing.proofs.whole.answer_of.Statement.{statement}
 use Rattle.listing.proofs.whole.answer_of.Tie as tie
 
@@ -20,13 +20,13 @@ returns : tie.Need-returns
 returns c =
     let p = c .before .before .before in
     let a = p .before .before .before .args in
-    whole (printed (a .input .now)) (a .out .now) _ _ (omega arith) (p .print-answer .ensures .0) (p .print-answer .ensures .1) _ (c .before .written .given .1)
+    whole (printed (a .input .now)) (a .out .now) _ _ (omega (arith, p .print-answer .ensures .1)) (p .print-answer .ensures .0) _ (c .before .written .given .1)
 
 returns-2 : tie.Need-returns-2
 returns-2 c =
     let p = c .before .before in
     let a = p .before .before .before .args in
-    absurd (never-short (printed (a .input .now)) (a .out .now) _ _ (omega arith) (p .print-answer .ensures .0) (p .print-answer .ensures .1) _ (c .enum-told .given .1))
+    absurd (never-short (printed (a .input .now)) (a .out .now) _ _ (omega (arith, p .print-answer .ensures .1)) (p .print-answer .ensures .0) _ (c .enum-told .given .1))
 
 pub answer-of-spec : {M : Type 1} → statement M
 answer-of-spec = tie.close (tie.spec print-answer-requires enum-known-written enum-told returns returns-2)

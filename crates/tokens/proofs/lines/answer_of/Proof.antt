@@ -2,7 +2,8 @@
 use Prim.Native.Nat.{_≤_}
 use native.Mathlib.Omega.{arith}
 use Rattle.tokens.specs.Printed.{printed}
-use Rattle.tokens.proofs.Rows.{printed-size, whole, never-short}
+use Rattle.tokens.proofs.Rows.{printed-size}
+use Rattle.writing.proofs.Wholes.{whole, never-short}
 use borrow.Author.Needs.{needs}
 use Rattle.tokens.proofs.lines.answer_of.Statement.{statement}
 use Rattle.tokens.proofs.lines.answer_of.Tie as tie

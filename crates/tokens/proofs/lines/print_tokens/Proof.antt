@@ -3,7 +3,8 @@ use Prim.Native.Nat.{_*_, _≤_}
 use native.Mathlib.Omega.{arith}
 use mathlib.Core.Path.{_≡_, sym, ap, subst, _∙_}
 use mathlib.Core.List.{List}
-use Rattle.tokens.proofs.Rows.{answer-as, printed-list, printed-refused, room-for}
+use Rattle.writing.proofs.Wholes.{answer-as}
+use Rattle.tokens.proofs.Rows.{printed-list, printed-refused, room-for}
 use borrow.Author.Needs.{needs}
 use Rattle.tokens.proofs.lines.print_tokens.Statement.{statement}
 use Rattle.tokens.proofs.lines.print_tokens.Tie as tie
