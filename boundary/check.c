@@ -109,7 +109,7 @@ static void numbers(void) {
 
     CHECK(is(ask_readings(SEVENTY_SEVEN, every_run(SEVENTY_SEVEN)), YUNTHIREL_TOO_MANY_READINGS));
     uint8_t out[64];
-    CHECK(is(yunthirel_readings(SLICE("घर"), SLICE("(w घर (w))\n"), out, 17), YUNTHIREL_OUTPUT_TOO_SHORT));
+    CHECK(is(yunthirel_readings(SLICE("घर"), SLICE("(w घर (w))\n"), out, 27), YUNTHIREL_OUTPUT_TOO_SHORT));
     CHECK(is(yunthirel_candidates(SLICE("घर"), SLICE("(w घर (w))\n"), out, 32), YUNTHIREL_OUTPUT_TOO_SHORT));
     CHECK(is(yunthirel_decompose(SLICE("घर"), SLICE("(w घर (w))\n"), out, 32), YUNTHIREL_OUTPUT_TOO_SHORT));
 
@@ -136,7 +136,7 @@ static void texts_and_counts(void) {
     static uint8_t text[YUNTHIREL_LISTING_BYTES];
     struct yunthirel_code code = yunthirel_listing(SLICE("घरले"), SLICE("(w घर (wh))\n"), text, sizeof text);
     CHECK(yunthirel_number_of(code) == YUNTHIREL_ANSWERED);
-    CHECK(is_text(text, 0, yunthirel_count_of(code), "(list 1)\n(r घर घर () ((ले case)) 279)\n"));
+    CHECK(is_text(text, 0, yunthirel_count_of(code), "(list 1)\n(r घर घर () ((ले case)) 279 d)\n"));
     CHECK(yunthirel_count_of(ask_readings("घर", "")) == 0);
     CHECK(yunthirel_count_of(ask_readings("घरले", "(w घर (wh))\n(w घरले (w))\n")) == 2);
     /* No word has more candidates. */
@@ -200,6 +200,30 @@ static void marks(void) {
     CHECK(readings[0].suffix_count == 2);
     CHECK(readings[0].segments[0].shared == 1 && readings[0].segments[1].shared == 1);
     CHECK(readings[0].segments[2].shared == 0 && readings[0].segments[3].shared == 0);
+}
+
+/* The root's origin beside each reading: what the library says of the root alone, in each of the five ways, and not of the word. */
+static void origins_of_readings(void) {
+    const char *const sheet = "(w कृति (w))\n(w घर (ht))\n(w घरको (w))\n(w ठाडो (w))\n(w सफल (w))\n";
+    const char *const words[] = {"घरको", "कृतिले", "ठाडोले", "सफलले"};
+    const float sure[] = {0.95f, 1.0f, 0.65f, 0.0f};
+    const enum yunthirel_source sources[] = {YUNTHIREL_KOSHA, YUNTHIREL_OVERRIDE, YUNTHIREL_HEURISTIC, YUNTHIREL_UNKNOWN};
+    for (size_t k = 0; k < sizeof words / sizeof words[0]; k++) {
+        struct yunthirel_code code = ask_readings(words[k], sheet);
+        CHECK(yunthirel_count_of(code) > 0);
+        CHECK(readings[0].source == sources[k] && readings[0].confidence == sure[k]);
+        for (size_t i = 0; i < yunthirel_count_of(code); i++) {
+            const uint8_t *root = (const uint8_t *)words[k] + readings[i].root;
+            size_t root_len = (size_t)(readings[i].stem - readings[i].root);
+            struct yunthirel_code origin = yunthirel_origin(root, root_len, SLICE(sheet));
+            CHECK(yunthirel_number_of(origin) == YUNTHIREL_ANSWERED);
+            CHECK(readings[i].origin == yunthirel_origin_of(origin));
+            CHECK(readings[i].source == yunthirel_source_of(origin));
+            CHECK(readings[i].confidence == yunthirel_confidence(root, root_len, SLICE(sheet)));
+        }
+    }
+    CHECK(yunthirel_count_of(ask_readings("घरको", sheet)) == 2);
+    CHECK(readings[1].source == YUNTHIREL_KOSHA && readings[1].confidence == 0.90f);
 }
 
 /* The word put back together from each of its rows, one with a prefix's form and one with a shared letter among them. */
@@ -371,10 +395,10 @@ static void sizes(void) {
     CHECK(sizeof(struct yunthirel_token) == 8);
     CHECK(sizeof(struct yunthirel_code) == 8);
     CHECK(sizeof(struct yunthirel_segment) == 3);
-    CHECK(sizeof(struct yunthirel_reading) == 22);
+    CHECK(sizeof(struct yunthirel_reading) == 28);
     CHECK(sizeof(struct yunthirel_root) == 33);
     CHECK(YUNTHIREL_READINGS == 64);
-    CHECK(YUNTHIREL_LISTING_BYTES == 37258);
+    CHECK(YUNTHIREL_LISTING_BYTES == 37386);
 }
 
 int main(void) {
@@ -383,6 +407,7 @@ int main(void) {
     kinds();
     marks();
     fields_of_a_reading();
+    origins_of_readings();
     surfaces();
     fields_of_a_root();
     known();

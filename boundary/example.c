@@ -56,7 +56,7 @@ static void print_readings(void) {
                 printf(" shared");
             }
         }
-        printf("\n");
+        printf(", %s, %s, %.2f\n", origins[row->origin], sources[row->source], (double)row->confidence);
     }
 }
 

@@ -67,7 +67,8 @@ struct yunthirel_code yunthirel_check_word(const uint8_t *word, size_t word_len)
 struct yunthirel_code yunthirel_check_sheet(const uint8_t *sheet, size_t sheet_len);
 
 /* Readings. A stem is the word's first `stem` bytes, its root the stem from byte `root` on. Prefix rows, outermost first, are those of
- * yunthirel_prefix_labels; segments, nearest the stem first, have rows of yunthirel_affixes. Places that are not used are 0. */
+ * yunthirel_prefix_labels; segments, nearest the stem first, have rows of yunthirel_affixes. Places that are not used are 0.
+ * Origin, source and confidence are those that yunthirel_origin and yunthirel_confidence give for the root and the same sheet. */
 enum yunthirel_kind {
     YUNTHIREL_PARTICLE = 0,
     YUNTHIREL_CASE_MARKER = 1,
@@ -75,6 +76,11 @@ enum yunthirel_kind {
     YUNTHIREL_POSTPOSITION = 3,
     YUNTHIREL_COMPARISON_MARKER = 4
 };
+
+/* Where a word or a root comes from, and how that is known. */
+enum yunthirel_origin_tag { YUNTHIREL_TATSAM = 0, YUNTHIREL_TADBHAV = 1, YUNTHIREL_DESHAJ = 2, YUNTHIREL_AAGANTUK = 3 };
+
+enum yunthirel_source { YUNTHIREL_OVERRIDE = 0, YUNTHIREL_KOSHA = 1, YUNTHIREL_HEURISTIC = 2, YUNTHIREL_UNKNOWN = 3 };
 
 struct yunthirel_segment {
     uint8_t row;
@@ -90,12 +96,15 @@ struct yunthirel_reading {
     struct yunthirel_segment segments[4];
     uint8_t prefix_count;
     uint8_t suffix_count;
+    uint8_t origin;   /* the root's: enum yunthirel_origin_tag */
+    uint8_t source;   /* enum yunthirel_source */
+    float confidence; /* 0.0, 0.65, 0.90, 0.95 or 1.0 */
 };
 
 /* Rows and bytes that are always enough. */
 #define YUNTHIREL_READINGS 64
 #define YUNTHIREL_CANDIDATES 16
-#define YUNTHIREL_LISTING_BYTES 37258
+#define YUNTHIREL_LISTING_BYTES 37386
 #define YUNTHIREL_TOKENS 16384
 
 /* The word's readings in rank order: `out` takes an array of struct yunthirel_reading, and its length is in bytes, as everywhere but for a list of tokens, whose length is in numbers.
@@ -124,8 +133,6 @@ struct yunthirel_code yunthirel_has_known_root(const uint8_t *word, size_t word_
 /* Root candidates, and the decomposition, which has neither `known` nor `score` (both 0). The root is the word from byte `start` up to
  * byte `end`. The prefix row is one of yunthirel_prefix_labels; suffix rows, in the order in which they were taken off, are those of
  * yunthirel_suffixes. Places that are not used are 0. */
-enum yunthirel_origin_tag { YUNTHIREL_TATSAM = 0, YUNTHIREL_TADBHAV = 1, YUNTHIREL_DESHAJ = 2, YUNTHIREL_AAGANTUK = 3 };
-
 enum yunthirel_known { YUNTHIREL_KNOWN_WORD = 1, YUNTHIREL_KNOWN_HEADWORD = 2 };
 
 struct yunthirel_root {
@@ -181,8 +188,6 @@ struct yunthirel_code yunthirel_has_progressive(const uint8_t *word, size_t word
  * is 0; else a code whose number is 1 to 6. */
 struct yunthirel_code yunthirel_origin(const uint8_t *word, size_t word_len, const uint8_t *sheet, size_t sheet_len);
 
-enum yunthirel_source { YUNTHIREL_OVERRIDE = 0, YUNTHIREL_KOSHA = 1, YUNTHIREL_HEURISTIC = 2, YUNTHIREL_UNKNOWN = 3 };
-
 static inline enum yunthirel_origin_tag yunthirel_origin_of(struct yunthirel_code code) {
     return (enum yunthirel_origin_tag)(code.bits >> 8 & 3);
 }
@@ -195,7 +200,11 @@ static inline enum yunthirel_source yunthirel_source_of(struct yunthirel_code co
 float yunthirel_confidence(const uint8_t *word, size_t word_len, const uint8_t *sheet, size_t sheet_len);
 
 /* The structs are the rows byte for byte. */
-typedef char yunthirel_reading_has_22_bytes[sizeof(struct yunthirel_reading) == 22 ? 1 : -1];
+typedef char yunthirel_reading_has_28_bytes[sizeof(struct yunthirel_reading) == 28 ? 1 : -1];
+typedef char yunthirel_origin_is_byte_22[offsetof(struct yunthirel_reading, origin) == 22 ? 1 : -1];
+typedef char yunthirel_source_is_byte_23[offsetof(struct yunthirel_reading, source) == 23 ? 1 : -1];
+typedef char yunthirel_confidence_is_byte_24[offsetof(struct yunthirel_reading, confidence) == 24 ? 1 : -1];
+typedef char yunthirel_float_has_4_bytes[sizeof(float) == 4 ? 1 : -1];
 typedef char yunthirel_root_has_33_bytes[sizeof(struct yunthirel_root) == 33 ? 1 : -1];
 
 /* Words out of running text: longest runs of characters that are neither White_Space nor punctuation, with one at least in U+0900 to

@@ -45,7 +45,7 @@ fn print_readings(word: &[u8], sheet: &[u8]) {
             let shared = if segment.shared { " shared" } else { "" };
             print!(", {} {}{shared}", segment.kind.as_str(), segment.text)
         });
-        println!();
+        println!(", {}, {}, {:.2}", name(reading.origin), reading.source.as_str(), reading.confidence);
     }
 }
 

@@ -47,6 +47,22 @@ pub enum OriginSource {
 }
 
 impl OriginSource {
+    pub(crate) fn of_number(number: u8) -> Option<OriginSource> {
+        let sources = [OriginSource::Override, OriginSource::Kosha, OriginSource::Heuristic, OriginSource::Unknown];
+        sources.get(usize::from(number)).copied()
+    }
+
+    /// Whether a decision from this source can be so sure.
+    pub(crate) fn is_so_sure(self, confidence: f32) -> bool {
+        let sure: &[f32] = match self {
+            OriginSource::Override => &[1.0],
+            OriginSource::Kosha => &[0.95, 0.90],
+            OriginSource::Heuristic => &[0.65],
+            OriginSource::Unknown => &[0.0],
+        };
+        sure.iter().any(|sure| sure.to_bits() == confidence.to_bits())
+    }
+
     /// The source's name: `override`, `kosha`, `heuristic` or `unknown`.
     pub fn as_str(self) -> &'static str {
         match self {
@@ -77,9 +93,9 @@ impl OriginDecision {
         if raw::number(code) != 0 || code >> 12 != 0 {
             return None;
         }
-        let sources = [OriginSource::Override, OriginSource::Kosha, OriginSource::Heuristic, OriginSource::Unknown];
         let origin = Origin::of_number((code >> 8 & 3) as u8)?;
-        Some(OriginDecision { origin, source: sources[(code >> 10 & 3) as usize], confidence })
+        let source = OriginSource::of_number((code >> 10 & 3) as u8)?;
+        Some(OriginDecision { origin, source, confidence })
     }
 }
 

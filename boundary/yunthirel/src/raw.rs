@@ -8,8 +8,9 @@
 #![allow(unsafe_code)]
 
 /// The bytes of one reading in [`readings`]: stem's end, root's start and score as two bytes each, the low one first; two prefix
-/// rows; four segments, each a row, the number of its kind and its mark (shared 1); how many prefixes, how many segments.
-pub const READING_ROW: usize = 22;
+/// rows; four segments, each a row, the number of its kind and its mark (shared 1); how many prefixes, how many segments; the numbers of
+/// the root's origin and of the source; the confidence as the four bytes of an `f32`, the low one first.
+pub const READING_ROW: usize = 28;
 
 /// The bytes of one candidate in [`candidates`], and of a decomposition in [`decompose`]: root's start and end, prefix row, how
 /// many prefixes, how many suffixes, origin, letters (w 1, h 2), score as two bytes, the low one first, and 24 suffix rows. A
@@ -23,7 +24,7 @@ pub const READINGS_ROOM: usize = 64 * READING_ROW;
 pub const CANDIDATES_ROOM: usize = 16 * CANDIDATE_ROW;
 
 /// Bytes that are always enough for [`listing`].
-pub const LISTING_ROOM: usize = 37_258;
+pub const LISTING_ROOM: usize = 37_386;
 
 /// Numbers that are always enough for [`tokens`]: two for each of 16,384 tokens.
 pub const TOKENS_ROOM: usize = 2 * 16_384;

@@ -1,7 +1,8 @@
-//! A word's readings: stem, root, prefixes, suffixes and score, in rank order.
+//! A word's readings: stem, root, prefixes, suffixes, score and the root's origin, in rank order.
 #![forbid(unsafe_code)]
 
 use crate::labels::{AFFIXES, PREFIX_LABELS};
+use crate::origin::{Origin, OriginSource};
 use crate::raw::{self, READING_ROW, READINGS_ROOM};
 use crate::refusal::{LISTS, Refusal, no_answer, refused};
 
@@ -56,7 +57,7 @@ pub struct AffixSegment {
 }
 
 /// One reading of a word.
-#[derive(Debug, Clone, PartialEq, Eq, Hash)]
+#[derive(Debug, Clone, PartialEq)]
 pub struct Reading<'w> {
     /// The word without its suffixes.
     pub stem: &'w str,
@@ -68,6 +69,12 @@ pub struct Reading<'w> {
     pub suffix_segments: Vec<AffixSegment>,
     /// At most 612.
     pub score: u16,
+    /// Where the root comes from, as [`classify_with_provenance`](crate::classify_with_provenance) says it of the root alone.
+    pub origin: Origin,
+    /// How that is known.
+    pub source: OriginSource,
+    /// How surely: 0.0, 0.65, 0.90, 0.95 or 1.0.
+    pub confidence: f32,
 }
 
 impl<'w> Reading<'w> {
@@ -95,8 +102,9 @@ impl<'w> Reading<'w> {
 
     /// The reading that a row of [`raw::readings`] is for this word; none for bytes that cannot be read as one.
     ///
-    /// Checked is that stem and root are parts of the word and UTF-8, that counts, rows, kinds and marks are in their ranges, and that places
-    /// which are not used are 0; not that the library gives this row, nor its score.
+    /// Checked is that stem and root are parts of the word and UTF-8, that counts, rows, kinds, marks, origin and source are in their
+    /// ranges, that the confidence is one of the source's, and that places which are not used are 0; not that the library gives this
+    /// row, nor its score.
     pub fn of_row(word: &'w [u8], row: &[u8; READING_ROW]) -> Option<Reading<'w>> {
         let number = |at: usize| u16::from_le_bytes([row[at], row[at + 1]]);
         let stem = std::str::from_utf8(word.get(..usize::from(number(0)))?).ok()?;
@@ -104,6 +112,11 @@ impl<'w> Reading<'w> {
         let (prefixes, unused) = row[6..8].split_at_checked(usize::from(row[20]))?;
         let (segments, rest) = row[8..20].split_at_checked(3 * usize::from(row[21]))?;
         if unused.iter().chain(rest).any(|&byte| byte != 0) {
+            return None;
+        }
+        let (origin, source) = (Origin::of_number(row[22])?, OriginSource::of_number(row[23])?);
+        let confidence = f32::from_le_bytes([row[24], row[25], row[26], row[27]]);
+        if !source.is_so_sure(confidence) {
             return None;
         }
         let label = |&row: &u8| PREFIX_LABELS.get(usize::from(row)).copied();
@@ -122,6 +135,9 @@ impl<'w> Reading<'w> {
             prefixes: prefixes.iter().map(label).collect::<Option<_>>()?,
             suffix_segments: segments.chunks_exact(3).map(segment).collect::<Option<_>>()?,
             score: number(4),
+            origin,
+            source,
+            confidence,
         })
     }
 }
@@ -142,6 +158,14 @@ impl<'w> Reading<'w> {
 /// let readings = analyze_affixes("घरले".as_bytes(), "(w घर (wh))\n(w घरल (w))\n".as_bytes())?;
 /// assert_eq!((readings[0].stem, readings[0].suffix_segments[0].shared), ("घर", false));
 /// assert_eq!((readings[1].stem, readings[1].suffix_segments[0].shared), ("घरल", true));
+/// // Each root with its origin: घर has a tag, घरको is what को leaves it of.
+/// use yunthirel::{Origin, OriginSource};
+/// let readings = analyze_affixes("घरको".as_bytes(), "(w घर (ht))\n(w घरको (w))\n".as_bytes())?;
+/// let sure = readings.iter().map(|reading| (reading.root, reading.origin, reading.source, reading.confidence));
+/// assert!(sure.eq([
+///     ("घर", Origin::Tatsam, OriginSource::Kosha, 0.95),
+///     ("घरको", Origin::Tatsam, OriginSource::Kosha, 0.90),
+/// ]));
 /// # Ok::<(), yunthirel::Refusal>(())
 /// ```
 pub fn analyze_affixes<'w>(word: &'w [u8], sheet: &[u8]) -> Result<Vec<Reading<'w>>, Refusal> {
@@ -183,7 +207,7 @@ pub fn has_supported_analysis(word: &[u8], sheet: &[u8]) -> Result<bool, Refusal
 /// ```
 /// let mut out = [b'.'; 64];
 /// let size = yunthirel::write_readings("घरले".as_bytes(), "(w घर (wh))\n".as_bytes(), &mut out)?;
-/// assert_eq!(std::str::from_utf8(&out[..size]), Ok("(list 1)\n(r घर घर () ((ले case)) 279)\n"));
+/// assert_eq!(std::str::from_utf8(&out[..size]), Ok("(list 1)\n(r घर घर () ((ले case)) 279 d)\n"));
 /// assert!(out[size..].iter().all(|&byte| byte == b'.'));
 /// # Ok::<(), yunthirel::Refusal>(())
 /// ```

@@ -9,7 +9,7 @@ use crate::refusal::{INPUTS, Refusal, no_answer, refused};
 pub const MOST_VISITS: usize = 5_000;
 
 /// A word's readings, and how many pieces the source's walk visits for them.
-#[derive(Debug, Clone, PartialEq, Eq)]
+#[derive(Debug, Clone, PartialEq)]
 pub struct Counted<'w> {
     /// The readings, or 7 where there are more than 64.
     pub readings: Result<Vec<Reading<'w>>, Refusal>,

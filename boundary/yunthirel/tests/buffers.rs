@@ -103,8 +103,11 @@ fn rows_that_are_no_answer_are_not_read() {
     let mut row = [0; raw::READING_ROW];
     raw::readings(word, "(w घर (wh))\n".as_bytes(), &mut row);
     assert!(yunthirel::Reading::of_row(word, &row).is_some());
-    // Stem, root, a prefix row that is not counted, segment row, kind, mark, a segment that is not counted, the two counts.
-    for (at, byte) in [(0, 13), (0, 5), (2, 1), (2, 7), (6, 1), (8, 25), (9, 5), (10, 2), (11, 1), (20, 3), (21, 5)] {
+    // Stem, root, a prefix row that is not counted, segment row, kind, mark, a segment that is not counted, the two counts, origin,
+    // source (one that is none, one that is surer), the four bytes of the confidence.
+    let origin = [(22, 4), (23, 4), (23, 1), (24, 1), (25, 1), (26, 1), (27, 0x3F)];
+    let reading = [(0, 13), (0, 5), (2, 1), (2, 7), (6, 1), (8, 25), (9, 5), (10, 2), (11, 1), (20, 3), (21, 5)];
+    for (at, byte) in reading.into_iter().chain(origin) {
         let mut other = row;
         other[at] = byte;
         assert_eq!(yunthirel::Reading::of_row(word, &other), None, "byte {at} as {byte}");

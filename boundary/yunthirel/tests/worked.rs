@@ -16,14 +16,22 @@ fn the_listing() {
     let (word, sheet) = ("घरले".as_bytes(), "(w घर (wh))\n".as_bytes());
     let readings = analyze_affixes(word, sheet).expect("accepted");
     let segment = AffixSegment { text: "ले", kind: AffixKind::CaseMarker, shared: false };
-    let reading =
-        Reading { stem: "घर", root: "घर", prefixes: vec![], suffix_segments: vec![segment], score: 279 };
+    let reading = Reading {
+        stem: "घर",
+        root: "घर",
+        prefixes: vec![],
+        suffix_segments: vec![segment],
+        score: 279,
+        origin: Origin::Deshaj,
+        source: OriginSource::Unknown,
+        confidence: 0.0,
+    };
     assert_eq!(readings, std::slice::from_ref(&reading));
     assert_eq!(best_analysis(word, sheet), Ok(Some(reading)));
     assert_eq!(has_supported_analysis(word, sheet), Ok(true));
     let mut out = [0; raw::LISTING_ROOM];
     let size = write_readings(word, sheet, &mut out).expect("accepted");
-    assert_eq!(&out[..size], "(list 1)\n(r घर घर () ((ले case)) 279)\n".as_bytes());
+    assert_eq!(&out[..size], "(list 1)\n(r घर घर () ((ले case)) 279 d)\n".as_bytes());
     // The texts are parts of the word that was lent.
     assert_eq!(readings[0].stem.as_ptr(), word.as_ptr());
 }
@@ -131,6 +139,28 @@ fn shared_letters() {
     let stem = |text: &str| text.to_string();
     assert_eq!(marks("घरले", "(w घर (wh))\n(w घरल (w))\n"), [(stem("घर"), vec![false]), (stem("घरल"), vec![true])]);
     assert_eq!(marks("घरतिरे", "(w घरत (w))\n"), [(stem("घरत"), vec![true, true])]);
+}
+
+#[test]
+fn origins_beside_readings() {
+    let sheet = sheet(&["(w कृति (w))", "(w घर (ht))", "(w घरको (w))", "(w ठाडो (w))", "(w सफल (w))"]);
+    let told = |word: &'static str| {
+        let list = analyze_affixes(word.as_bytes(), &sheet).expect("accepted");
+        for reading in &list {
+            let alone = classify_with_provenance(reading.root.as_bytes(), &sheet).expect("accepted");
+            assert_eq!((reading.origin, reading.source), (alone.origin, alone.source), "{word}");
+            assert_eq!(reading.confidence.to_bits(), alone.confidence.to_bits(), "{word}");
+        }
+        list.iter().map(|reading| (reading.root, reading.origin, reading.confidence.to_bits())).collect::<Vec<_>>()
+    };
+    assert_eq!(told("घरको"), [("घर", Origin::Tatsam, 0x3F73_3333), ("घरको", Origin::Tatsam, 0x3F66_6666)]);
+    // The table has the root and not the word; the marks see the root alone.
+    assert_eq!(told("कृतिले"), [("कृति", Origin::Tatsam, 0x3F80_0000)]);
+    assert_eq!(told("ठाडोले"), [("ठाडो", Origin::Tadbhav, 0x3F26_6666)]);
+    assert_eq!(told("सफलले"), [("सफल", Origin::Deshaj, 0)]);
+    let verbs = "(w खानु (hv))\n(w रहनु (hv))\n".as_bytes();
+    let best = best_analysis("खाइरहेको".as_bytes(), verbs).expect("accepted").expect("a reading");
+    assert_eq!((best.origin, best.source), (Origin::Tadbhav, OriginSource::Heuristic));
 }
 
 #[test]

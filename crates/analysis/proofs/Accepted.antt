@@ -8,13 +8,9 @@ use lib.ListN.{length, take, getD}
 use lib.Dec.{ltb}
 use borrow.Author.Tests.{ltb-false, lt-ltb}
 use Rattle.runs.specs.Runs.{pick}
-use Rattle.ranking.specs.Lists.{Rows, rows, over, rowsOf, foundOf}
-use Rattle.ranking.specs.declared.Found.{Found}
-use Rattle.analysis.specs.Answers.{byRows, listedRows, bestRows, isSome}
+use Rattle.analysis.specs.Answers.{bestRows, isSome}
 use Rattle.analysis.specs.declared.entry.Best.{Best}
-use Rattle.ranking.specs.declared.Reading.{Reading}
-use Rattle.analysis.specs.declared.entry.Said.the-variants.{Listed, Refused}
-use Rattle.refusals.specs.declared.Refusal.the-variants.{TooManyReadings}
+use Rattle.ranking.specs.declared.Classified.{Classified}
 use Rattle.text.specs.Utf8.{isUtf8}
 use Rattle.text.specs.Names.{holdsForbidden}
 use Rattle.text.specs.Word.{wordLimit, wordCheck}
@@ -31,25 +27,17 @@ word-parts w = by (ltb wordLimit (length w)) (isUtf8 w) (holdsForbidden w) refl 
     by false false c p q e = let z : _≡_ {A = ℕ} 0 1 = cc in absurd (omega arith)
     by false true c p q e = (ltb-false wordLimit (length w) p, q)
 
--- what has been collected, and what is said of it
-module _ (f : Found) (r : Rows) (e : foundOf f ≡ r) where
-  pub too-many : f .over ≡ true → (Refused TooManyReadings ≡ byRows r) × ([] ≡ listedRows r)
-  too-many h = let q : over ≡ r = rw h at e in (ap byRows q, ap listedRows q)
-
-  pub all-listed : f .over ≡ false → (Listed ≡ byRows r) × (rowsOf (f .list) ≡ listedRows r)
-  all-listed h = let q : rows (rowsOf (f .list)) ≡ r = rw h at e in (ap byRows q, ap listedRows q)
-
 -- the first of the rows of a list, if there is one
-pub first-row : (xs : List Reading) (n : ℕ) (d : Reading) → 0 < length xs → pick (ltb 0 n) (getD xs 0 d ∷ []) [] ≡ take 1 (take n xs)
+pub first-row : (xs : List Classified) (n : ℕ) (d : Classified) → 0 < length xs → pick (ltb 0 n) (getD xs 0 d ∷ []) [] ≡ take 1 (take n xs)
 first-row [] n d h = absurd (omega arith)
 first-row (x ∷ xs) zero d h = refl
 first-row (x ∷ xs) (suc n) d h = rw (lt-ltb 0 (suc n) (omega arith))
 
 -- whether there is one
-pub some-rows : (b : Best) (rs : List Reading) → bestRows b ≡ take 1 rs → b .some ≡ isSome rs
+pub some-rows : (b : Best) (rs : List Classified) → bestRows b ≡ take 1 rs → b .some ≡ isSome rs
 some-rows b rs e = by (b .some) rs e
   where
-    by : (c : Bool) (xs : List Reading) → pick c (b .reading ∷ []) [] ≡ take 1 xs → c ≡ isSome xs
+    by : (c : Bool) (xs : List Classified) → pick c (b .reading ∷ []) [] ≡ take 1 xs → c ≡ isSome xs
     by true [] h = let z : _≡_ {A = ℕ} 1 0 = ap length h in absurd (omega arith)
     by true (x ∷ xs) h = refl
     by false [] h = refl

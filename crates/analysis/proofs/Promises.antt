@@ -8,7 +8,7 @@ use native.Mathlib.Omega.{arith}
 use mathlib.Core.Path.{_≡_, refl, sym, ap, subst, _∙_}
 use mathlib.Core.Logic.{_↔_}
 use mathlib.Core.List.{List, [], _∷_, map, List·Memᴰ, List·Memᴰ·head, List·Memᴰ·not-nil}
-use lib.ListN.{length}
+use lib.ListN.{length, length-map}
 use Rattle.text.specs.Characters.{chars}
 use Rattle.text.specs.Word.{wordCheck}
 use Rattle.text.specs.declared.word.WordCheck.the-variants as words
@@ -23,8 +23,9 @@ use Rattle.refusals.specs.Refusals.{number}
 use Rattle.sheet.proofs.Refusals.{accepted-both, lowest, refused-low}
 use Rattle.ranking.specs.Lists.{listLimit, Rows, rows, over}
 use Rattle.ranking.specs.declared.Reading.{Reading}
+use Rattle.ranking.specs.declared.Classified.{Classified}
 use Rattle.paths.specs.Chains.{Route}
-use Rattle.paths.specs.Readings.{Parts, partsOf, IsReading, readingOf}
+use Rattle.paths.specs.Readings.{Parts, partsOf, IsReading, rowOf, classified}
 use Rattle.paths.specs.Counted.{AtLeast}
 use Rattle.paths.specs.Questions.{Own}
 use Rattle.paths.specs.Walk.{wordWalk}
@@ -52,20 +53,16 @@ seven-over : (c : Rows) → saidNumbers (byRows c) ≡ 7 ∷ [] → c ≡ over
 seven-over (rows rs) e = let z : _≡_ {A = ℕ} 0 1 = ap length e in absurd (omega arith)
 seven-over over e = refl
 
-listed-rows : (c : Rows) → byRows c ≡ said.Listed → c ≡ rows (listedRows c)
-listed-rows (rows rs) e = refl
-listed-rows over e = let z : _≡_ {A = ℕ} 1 0 = ap (λ (x : Said). length (saidNumbers x)) e in absurd (omega arith)
-
 -- no list has more than 64 readings
 pub rows-few : (w s : List ℕ) → length (rowsGiven w s) ≤ listLimit
 unfolding rowsGiven
 rows-few w s = by (inputsOf w s)
   where
-    counted : (c : Rows) → length (listedRows c) ≡ rowCount c
-    counted (rows rs) = refl
+    counted : (c : Rows) → length (listedRows (reply s) w c) ≡ rowCount c
+    counted (rows rs) = length-map rs (classified (reply s) w)
     counted over = refl
 
-    by : (i : Inputs) → length (rowsBy i (collected w s)) ≤ listLimit
+    by : (i : Inputs) → length (rowsBy i (listedRows (reply s) w (collected w s))) ≤ listLimit
     by inputs.Accepted = let n = counted (collected w s) in let h = all-fit w (rows []) (wordWalk (reply s) (chars w) w) (omega arith) in omega arith
     by (inputs.Refused r) = omega arith
 
@@ -74,9 +71,9 @@ module _ (w s : List ℕ) (aw : wordCheck w ≡ words.Accepted) (ah : sheetCheck
   unfolding saidOf
   said-is = ap (λ (i : Inputs). saidBy i (collected w s)) (accepted-both w s aw ah)
 
-  rows-are : rowsGiven w s ≡ listedRows (collected w s)
+  rows-are : rowsGiven w s ≡ listedRows (reply s) w (collected w s)
   unfolding rowsGiven
-  rows-are = ap (λ (i : Inputs). rowsBy i (collected w s)) (accepted-both w s aw ah)
+  rows-are = ap (λ (i : Inputs). rowsBy i (listedRows (reply s) w (collected w s))) (accepted-both w s aw ah)
 
   -- refused with 7 exactly where the strip rules allow and the sheet supports more than 64 readings
   pub seven-exactly : (saidNumbers (saidOf w s) ≡ 7 ∷ []) ↔ AtLeast 65 (IsReading (reply s) w)
@@ -85,18 +82,19 @@ module _ (w s : List ℕ) (aw : wordCheck w ≡ words.Accepted) (ah : sheetCheck
     (λ m. ap saidNumbers (said-is ∙ ap byRows (found.over-exactly (reply s) w .1 m))),
   )
 
-  -- otherwise the list is given, and holds every reading exactly once, in rank order, with its segments and score, and nothing besides
+  -- otherwise the list is given, and holds every reading exactly once, in rank order, with its segments, its score and its root's origin,
+  -- source and confidence, and nothing besides
   pub all-listed : (AtLeast 65 (IsReading (reply s) w) → ⊥) → (saidOf w s ≡ said.Listed) × Listed (reply s) w (rowsGiven w s)
   all-listed none =
       let l = found.listed (reply s) w (word-parts w aw .1) none in
-      (said-is ∙ ap byRows (l .1), subst (Listed (reply s) w) (sym (rows-are ∙ ap listedRows (l .1))) (l .2))
+      (said-is ∙ ap byRows (l .1), subst (Listed (reply s) w) (sym (rows-are ∙ ap (listedRows (reply s) w) (l .1))) (l .2))
 
   -- where a list is given, there are not too many
   few : saidOf w s ≡ said.Listed → AtLeast 65 (IsReading (reply s) w) → ⊥
   few e m = let z : _≡_ {A = ℕ} 0 1 = ap length (ap saidNumbers (sym e) ∙ seven-exactly .1 m) in absurd (omega arith)
 
   -- every reading of a list that is given puts the word back together
-  pub all-recomposed : saidOf w s ≡ said.Listed → All (Recomposed w) (rowsGiven w s)
+  pub all-recomposed : saidOf w s ≡ said.Listed → All (λ (r : Classified). Recomposed w (r .reading)) (rowsGiven w s)
   all-recomposed e = found.recomposed (reply s) w (rowsGiven w s) (all-listed (few e) .1)
 
   -- a list that is given is empty exactly where there is no reading
@@ -107,21 +105,28 @@ module _ (w s : List ℕ) (aw : wordCheck w ≡ words.Accepted) (ah : sheetCheck
         (λ u. sym (l .rows-are) ∙ none-there (l .paths) (λ p m. u (partsOf p) (p, l .each p .0 m, refl))),
       )
     where
-      no-path : (ps : List Route) (p : Route) → map (readingOf (reply s) w) ps ≡ [] → List·Memᴰ p ps → ⊥
+      no-path : (ps : List Route) (p : Route) → map (rowOf (reply s) w) ps ≡ [] → List·Memᴰ p ps → ⊥
       no-path [] p n m = List·Memᴰ·not-nil m
-      no-path (q ∷ ps) p n m = let z : _≡_ {A = ℕ} (suc (length (map (readingOf (reply s) w) ps))) 0 = ap length n in absurd (omega arith)
+      no-path (q ∷ ps) p n m = let z : _≡_ {A = ℕ} (suc (length (map (rowOf (reply s) w) ps))) 0 = ap length n in absurd (omega arith)
 
-      none-there : (ps : List Route) → ((p : Route) → List·Memᴰ p ps → ⊥) → map (readingOf (reply s) w) ps ≡ []
+      none-there : (ps : List Route) → ((p : Route) → List·Memᴰ p ps → ⊥) → map (rowOf (reply s) w) ps ≡ []
       none-there [] u = refl
       none-there (p ∷ ps) u = absurd (u p (List·Memᴰ·head refl))
 
--- two accepted sheets alike in their replies to the word's own questions give the same: the same list, or 7 both times
+-- two accepted sheets alike in their replies to the word's own questions give the same: the same list, in which each root has the same
+-- origin, source and confidence, or 7 both times
 pub same-answer : (s t w : List ℕ) → wordCheck w ≡ words.Accepted → sheetCheck s ≡ sheets.Accepted → sheetCheck t ≡ sheets.Accepted
     → ((letter : ℕ) (name : List ℕ) → Own (reply s) w letter name → Alike s t letter name)
     → (saidOf w s ≡ saidOf w t) × (rowsGiven w s ≡ rowsGiven w t)
 same-answer s t w aw ah bh h =
-    let c : collected w s ≡ collected w t = found.same-answer s t w (word-parts w aw .1) h in
-    (said-is w s aw ah ∙ ap byRows c ∙ sym (said-is w t aw bh), rows-are w s aw ah ∙ ap listedRows c ∙ sym (rows-are w t aw bh))
+    let c : collected w s ≡ collected w t = found.same-answer s t w (word-parts w aw .1) h in (
+      said-is w s aw ah ∙ ap byRows c ∙ sym (said-is w t aw bh),
+      rows-are w s aw ah ∙ by (collected w s) refl ∙ ap (listedRows (reply t) w) c ∙ sym (rows-are w t aw bh),
+    )
+  where
+    by : (x : Rows) → collected w s ≡ x → listedRows (reply s) w x ≡ listedRows (reply t) w x
+    by (rows rs) e = found.same-origins s t w (word-parts w aw .1) h rs e
+    by over e = refl
 
 -- The pieces visited (document 02 (n)): those of an accepted word under an accepted sheet, also where the answer is 7.
 
@@ -168,7 +173,7 @@ pub refused : (w s : List ℕ) (r : Refusal) → inputsOf w s ≡ inputs.Refused
 unfolding saidOf rowsGiven
 refused w s r e = (
   ap (λ (i : Inputs). saidNumbers (saidBy i (collected w s))) e ∙ ap numbersGiven (sym e) ∙ lowest w s,
-  ap (λ (i : Inputs). rowsBy i (collected w s)) e,
+  ap (λ (i : Inputs). rowsBy i (listedRows (reply s) w (collected w s))) e,
 )
 
 -- what is said instead of a list has one of the numbers 1 to 7

@@ -1,4 +1,5 @@
 // The core call and the two beside it: a word and a sheet lent, each tested before anything is asked, the list by value.
+use crate::origins::classify_rows;
 use crate::suffixes::visit;
 use lookup::lines::first_refusal;
 use lookup::lines::prepare_sheet;
@@ -7,10 +8,11 @@ use lookup::starts::Start;
 use paths::Chain;
 use paths::Piece;
 use paths::ROWS;
+use paths::Tally;
+use ranking::Classified;
+use ranking::LIMIT;
 use ranking::Listing;
-use ranking::Reading;
 use ranking::blank;
-use ranking::kept::found;
 use ranking::nothing;
 use ranking::rows::KEPT;
 use refusals::Numbers;
@@ -22,6 +24,7 @@ use sheet::limits::FEW_STARTS;
 use sheet::limits::SMALL_BYTES;
 ghost use mathlib.Core.Path.{_≡_};
 ghost use mathlib.Core.List.{[], _∷_};
+ghost use Prim.Native.Nat.{_+_, _≤_};
 ghost use lib.ListN.{length, take};
 ghost use lib.Dec.{eqb, ltb};
 ghost use Rattle.runs.specs.Runs.{pick};
@@ -30,7 +33,8 @@ ghost use Rattle.text.specs.declared.word.WordCheck.the-variants.{Accepted};
 ghost use Rattle.refusals.specs.Refusals.{number};
 ghost use Rattle.sheet.specs.Replies.{Indexed, reply};
 ghost use Rattle.lookup.specs.Starts.{Room};
-ghost use Rattle.ranking.specs.Lists.{rowsOf};
+ghost use Rattle.ranking.specs.Lists.{listLimit, rowsOf};
+ghost use Rattle.ranking.specs.Kept.{keptOf, keptBytes, HasRoom};
 ghost use Rattle.paths.specs.Visits.{visitsOf};
 ghost use Rattle.analysis.specs.Answers.{collected, byRows, listedRows, saidOf, rowsGiven, visitsGiven, visitsAnswer, bestRows, hasOf};
 
@@ -52,7 +56,7 @@ pub struct Analysis {
 pub struct Best {
     pub said: Said,
     pub some: bool,
-    pub reading: Reading,
+    pub reading: Classified,
 }
 
 // The answer of `has_supported_analysis`.
@@ -71,8 +75,7 @@ pub enum Visits {
 fn refused(said: Said, visits: usize) -> Analysis
     ensures { λ r. ⌜ (r .said ≡ said) × (rowsOf (r .list) ≡ []) × (r .list .count ≡ 0) × (r .visits ≡ visits) ⌝ }
 {
-    let none = nothing();
-    let list = none.list;
+    let list = nothing();
     Analysis { said, visits, list }
 }
 
@@ -86,11 +89,35 @@ fn unless_empty(len: usize, visits: usize) -> usize
     visits
 }
 
-// What is given where word and sheet are accepted: the list, or that there are too many; and the pieces visited in any case.
-fn listed(word: &[u8], sheet: &[u8], starts: &[Start]) -> Analysis
-    requires { ⌜ (wordCheck (now word) ≡ Accepted) × Indexed (now sheet) (now starts) ⌝ }
-    ensures { λ r. ⌜ (r .said ≡ byRows (collected (now (word .entry)) (now (sheet .entry)))) × (rowsOf (r .list) ≡ listedRows (collected (now (word .entry)) (now (sheet .entry))))
-        × (r .list .count ≡ length (listedRows (collected (now (word .entry)) (now (sheet .entry))))) × (r .visits ≡ visitsOf (reply (now (sheet .entry))) (now (word .entry))) ⌝ }
+// What is given of what the walk has kept: the list, or that there are too many; and the pieces visited in any case.
+fn handed(
+    word: &[u8],
+    sheet: &[u8],
+    starts: &[Start],
+    n: usize,
+    visits: usize,
+    out: &[u8],
+) -> Analysis
+    requires { ⌜ Indexed (now sheet) (now starts) × HasRoom (now out) n ⌝ }
+    ensures { λ r. ⌜ (r .said ≡ byRows (keptOf (now (out .entry)) n)) × (rowsOf (r .list) ≡ listedRows (reply (now (sheet .entry))) (now (word .entry)) (keptOf (now (out .entry)) n))
+        × (r .list .count ≡ length (listedRows (reply (now (sheet .entry))) (now (word .entry)) (keptOf (now (out .entry)) n))) × (r .visits ≡ visits) ⌝ }
+{
+    if LIMIT < n {
+        return refused(Said::Refused(Refusal::TooManyReadings), visits);
+    }
+    let list = classify_rows(word, sheet, starts, n, out);
+    Analysis {
+        said: Said::Listed,
+        visits,
+        list,
+    }
+}
+
+// The readings of an accepted word under an accepted sheet, kept in `out` in rank order: how many there are, 65 for more than 64; and the
+// pieces visited. `starts` are the first bytes of the sheet's lines. Free: what `out` holds behind the rows, and after more than 64.
+pub fn keep_readings(word: &[u8], sheet: &[u8], starts: &[Start], out: &mut [u8]) -> Tally
+    requires { ⌜ (wordCheck (now word) ≡ Accepted) × Indexed (now sheet) (now starts) × (keptBytes ≤ length (now out)) ⌝ }
+    ensures { λ r. ⌜ (keptOf (now (out .exit)) (r .kept) ≡ collected (now (word .entry)) (now (sheet .entry))) × (r .kept ≤ listLimit + 1) × (r .visits ≡ visitsOf (reply (now (sheet .entry))) (now (word .entry))) ⌝ }
 {
     let texts = tables::affixes();
     let cuts = tables::affix_starts();
@@ -102,7 +129,6 @@ fn listed(word: &[u8], sheet: &[u8], starts: &[Start]) -> Analysis
         segments: [s; 4],
         count: 0,
     };
-    let mut out: [u8; KEPT] = [0; KEPT];
     let walked = visit(
         word,
         sheet,
@@ -119,19 +145,24 @@ fn listed(word: &[u8], sheet: &[u8], starts: &[Start]) -> Analysis
         },
         surface,
         0,
-        &mut out,
+        out,
     );
     let visits = unless_empty(word.len(), walked.visits);
-    let found = found(walked.kept, &out);
-    if found.over {
-        return refused(Said::Refused(Refusal::TooManyReadings), visits);
-    }
-    let list = found.list;
-    Analysis {
-        said: Said::Listed,
-        visits,
-        list,
-    }
+    let kept = walked.kept;
+    Tally { kept, visits }
+}
+
+// What is given where word and sheet are accepted: all readings, or that there are more than 64; and the pieces visited in any case.
+fn listed(word: &[u8], sheet: &[u8], starts: &[Start]) -> Analysis
+    requires { ⌜ (wordCheck (now word) ≡ Accepted) × Indexed (now sheet) (now starts) ⌝ }
+    ensures { λ r. ⌜ (r .said ≡ byRows (collected (now (word .entry)) (now (sheet .entry)))) × (rowsOf (r .list) ≡ listedRows (reply (now (sheet .entry))) (now (word .entry)) (collected (now (word .entry)) (now (sheet .entry))))
+        × (r .list .count ≡ length (listedRows (reply (now (sheet .entry))) (now (word .entry)) (collected (now (word .entry)) (now (sheet .entry))))) × (r .visits ≡ visitsOf (reply (now (sheet .entry))) (now (word .entry))) ⌝ }
+{
+    let mut out: [u8; KEPT] = [0; KEPT];
+    let tally = keep_readings(word, sheet, starts, &mut out);
+    let n = tally.kept;
+    let visits = tally.visits;
+    handed(word, sheet, starts, n, visits, &out)
 }
 
 // Every reading of the word that an accepted sheet supports, or why there is no list, and the pieces visited. `starts` are the first bytes of the sheet's lines.
@@ -178,7 +209,7 @@ pub fn analyze_affixes(word: &[u8], sheet: &[u8]) -> Analysis
 }
 
 // The first reading of a list. Free: the reading of an empty list.
-fn first_of(list: Listing) -> Reading
+fn first_of(list: Listing) -> Classified
     ensures { λ r. ⌜ pick (ltb 0 (list .count)) (r ∷ []) [] ≡ take 1 (rowsOf list) ⌝ }
 {
     list.rows[0]

@@ -10,6 +10,7 @@ fn main() {
     let list = analysis.list;
     if 0 < list.count {
         let best = list.rows[0];
-        io::write_all(STDOUT_FILENO, root_of(word, best));
+        let reading = best.reading;
+        io::write_all(STDOUT_FILENO, root_of(word, reading));
     }
 }

@@ -1,4 +1,4 @@
--- Buffers that are always long enough: 1,408 bytes for the readings of a word, 528 for its root candidates, 37,258 for the list of its
+-- Buffers that are always long enough: 1,792 bytes for the readings of a word, 528 for its root candidates, 37,386 for the list of its
 -- readings as a text. Assumes nothing.
 use Prim.Native.Nat.{ℕ, _*_, _≤_, _<_}
 use native.Mathlib.Omega.{arith}
@@ -22,13 +22,12 @@ use Rattle.sheet.specs.declared.inputs.Inputs.{Inputs}
 use Rattle.sheet.specs.declared.inputs.Inputs.the-variants as inputs
 use Rattle.sheet.proofs.Refusals.{accepted-each}
 use Rattle.decomposition.proofs.Short.{word-short}
-use Rattle.ranking.specs.Lists.{Rows}
-use Rattle.ranking.specs.declared.Reading.{Reading}
+use Rattle.ranking.specs.Lists.{listLimit, Rows}
+use Rattle.ranking.specs.declared.Classified.{Classified}
 use Rattle.paths.specs.Chains.{Route}
 use Rattle.paths.specs.Counted.{AtLeast}
-use Rattle.paths.specs.Readings.{IsReading, readingOf, filled, segmentOf}
-use Rattle.ranking.specs.Stored.{noSegment, readingBytes, readingWidth}
-use Rattle.ranking.specs.Kept.{keptBytes}
+use Rattle.paths.specs.Readings.{IsReading, readingOf, rowOf, filled, segmentOf}
+use Rattle.ranking.specs.Stored.{noSegment}
 use Rattle.paths.proofs.Promises.{Listed}
 use Rattle.roots.specs.Answers.{rootsFor}
 use Rattle.roots.proofs.Bounded.{roots-few}
@@ -39,22 +38,22 @@ use Rattle.analysis.proofs.Promises.{rows-few, seven-exactly, all-listed, said-
 use Rattle.listing.specs.Texts.{rowText, rowTexts, listingText, rowRoom, listingRoom}
 use Rattle.writing.specs.Placed.{writtenOf}
 use Rattle.listing.specs.Printed.{outcomeBy, outcomeOf, leftOf}
-use Rattle.listing.proofs.Room.{reading-size, listing-size}
+use Rattle.listing.proofs.Room.{reading-size, row-size, listing-size}
 use Rattle.exports.specs.Codes.{coded, answered, refusalCode, writtenCode}
-use Rattle.exports.specs.Rows.{Filled, each, rowsFilled, readingsIf, readingsFilled}
+use Rattle.exports.specs.Rows.{Filled, rowBytes, rowWidth, each, rowsFilled, readingsIf, readingsFilled}
 use Rattle.exports.specs.Filled.{candidateBytes, candidatesIf, candidatesFilled}
 use Rattle.exports.proofs.Widths.{rows-long}
 use Rattle.exports.proofs.Put.{both}
 
 -- a list that is given is stored, all of it
-pub readings-enough : (w s out : List ℕ) → keptBytes ≤ length out → saidOf w s ≡ said.Listed →
+pub readings-enough : (w s out : List ℕ) → rowWidth * listLimit ≤ length out → saidOf w s ≡ said.Listed →
     (answered (length (rowsGiven w s)) ≡ readingsFilled w s out .code)
-    × (each readingBytes (rowsGiven w s) ++ drop (readingWidth * length (rowsGiven w s)) out ≡ readingsFilled w s out .buffer)
+    × (each rowBytes (rowsGiven w s) ++ drop (rowWidth * length (rowsGiven w s)) out ≡ readingsFilled w s out .buffer)
 unfolding readingsFilled
 readings-enough w s out h e =
     let n = rows-few w s in
-    let f : rowsFilled readingWidth readingBytes (rowsGiven w s) out ≡ readingsIf (saidOf w s) (rowsGiven w s) out = ap (λ (x : Said). readingsIf x (rowsGiven w s) out) (sym e) in
-    both f (rows-long readingBytes readingWidth (length (rowsGiven w s)) (rowsGiven w s) out refl _ (omega arith) refl)
+    let f : rowsFilled rowWidth rowBytes (rowsGiven w s) out ≡ readingsIf (saidOf w s) (rowsGiven w s) out = ap (λ (x : Said). readingsIf x (rowsGiven w s) out) (sym e) in
+    both f (rows-long rowBytes rowWidth (length (rowsGiven w s)) (rowsGiven w s) out refl _ (omega arith) refl)
 
 pub candidates-enough : (w s out : List ℕ) → 528 ≤ length out → inputsOf w s ≡ inputs.Accepted →
     (answered (length (rootsFor w s)) ≡ candidatesFilled w s out .code)
@@ -90,14 +89,17 @@ unfolding readingOf
 four-segments ask w p = filled-long 4 noSegment (reverse (map (segmentOf ask) (p .strips)))
 
 -- each row of a list has at most `rowRoom` bytes
+path-size : (ask : Ask) (w : List ℕ) (p : Route) → length w ≤ 192 → readingOf ask w p .score ≤ 612 → length (rowText w (rowOf ask w p)) ≤ rowRoom
+unfolding rowOf
+path-size ask w p h c = row-size w (rowOf ask w p) (reading-size w (readingOf ask w p) h (two-prefixes ask w p) (four-segments ask w p) (omega arith))
+
 rows-size : (ask : Ask) (w : List ℕ) (ps : List Route) → length w ≤ 192 → ((p : Route) → List·Memᴰ p ps → readingOf ask w p .score ≤ 612)
-    → length (rowTexts w (map (readingOf ask w) ps)) ≤ length ps * rowRoom
+    → length (rowTexts w (map (rowOf ask w) ps)) ≤ length ps * rowRoom
 rows-size ask w [] h k = omega arith
 rows-size ask w (p ∷ ps) h k =
-    let c = k p (List·Memᴰ·head refl) in
-    let a : length (rowText w (readingOf ask w p)) ≤ rowRoom = reading-size w (readingOf ask w p) h (two-prefixes ask w p) (four-segments ask w p) (omega arith) in
+    let a = path-size ask w p h (k p (List·Memᴰ·head refl)) in
     let r = rows-size ask w ps h (λ q m. k q (List·Memᴰ·tail m)) in
-    let l = length-append (rowText w (readingOf ask w p)) (rowTexts w (map (readingOf ask w) ps)) in
+    let l = length-append (rowText w (rowOf ask w p)) (rowTexts w (map (rowOf ask w) ps)) in
     let m = suc-mul (length ps) rowRoom in
     omega arith
 
@@ -109,17 +111,17 @@ given-paths w s e =
     (λ m. let z : _≡_ {A = ℕ} 0 1 = ap (length {A = ℕ}) (ap saidNumbers (sym e) ∙ seven-exactly w s (a .0) (a .1) .1 m) in absurd (omega arith)) in
     (word-short w (a .0), all-listed w s (a .0) (a .1) few .1)
 
--- the text of a list that is given has at most 37,258 bytes
+-- the text of a list that is given has at most 37,386 bytes
 pub listing-bounded : (w s : List ℕ) → saidOf w s ≡ said.Listed → length (listingText w (rowsGiven w s)) ≤ listingRoom
 listing-bounded w s e =
     let g = given-paths w s e in
     by (rowsGiven w s) (g .0) (g .1) (rows-few w s)
   where
-    by : (rs : List Reading) → length w ≤ 192 → Listed (reply s) w rs → length rs ≤ 64 → length (listingText w rs) ≤ listingRoom
+    by : (rs : List Classified) → length w ≤ 192 → Listed (reply s) w rs → length rs ≤ 64 → length (listingText w rs) ≤ listingRoom
     by rs h l f =
-        let n : length rs ≡ length (l .paths) = ap (length {A = Reading}) (sym (l .rows-are)) ∙ length-map (l .paths) (readingOf (reply s) w) in
-        let t : length (rowTexts w (map (readingOf (reply s) w) (l .paths))) ≤ length (l .paths) * rowRoom = rows-size (reply s) w (l .paths) h (l .scores h) in
-        let u : length (rowTexts w rs) ≤ length (l .paths) * rowRoom = subst (λ (xs : List Reading). length (rowTexts w xs) ≤ length (l .paths) * rowRoom) (l .rows-are) t in
+        let n : length rs ≡ length (l .paths) = ap (length {A = Classified}) (sym (l .rows-are)) ∙ length-map (l .paths) (rowOf (reply s) w) in
+        let t : length (rowTexts w (map (rowOf (reply s) w) (l .paths))) ≤ length (l .paths) * rowRoom = rows-size (reply s) w (l .paths) h (l .scores h) in
+        let u : length (rowTexts w rs) ≤ length (l .paths) * rowRoom = subst (λ (xs : List Classified). length (rowTexts w xs) ≤ length (l .paths) * rowRoom) (l .rows-are) t in
         listing-size w rs (length (l .paths)) (omega arith) (sym n) u
 
 -- so in a buffer of so many bytes the text stands whole

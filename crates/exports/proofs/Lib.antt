@@ -3,8 +3,10 @@ pub mod Put
 pub mod Widths
 pub mod Enough
 pub mod Places
+pub mod Sure
 pub mod Readable
 pub mod Counted
 pub mod Surfaces
 pub mod Reported
 pub mod Fitted
+pub mod Kept

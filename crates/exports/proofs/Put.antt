@@ -1,9 +1,11 @@
 -- Laws of what is stored in a lent buffer. The proofs of the functions of `parts` and `rows` cite these. Assumes nothing.
-use Prim.Native.Nat.{ℕ, _+_, _*_, _/_, _%_, _<_, _≤_}
+use Prim.Native.Nat.{ℕ, _+_, _-_, _*_, _/_, _%_, _<_, _≤_}
 use native.Mathlib.Omega.{arith}
 use mathlib.Core.Path.{_≡_, refl, sym, ap, _∙_}
-use mathlib.Core.List.{List, [], _∷_, _++_}
-use lib.ListN.{length, drop, getD}
+use mathlib.Core.List.{List, [], _∷_, _++_, append-assoc, append-nil}
+use lib.ListN.{length, take, drop, getD, length-drop, drop-of-length-le}
+use lib.Seq.{take-all, take-at, drop-at, drop-drop}
+use borrow.Rule.Slice.PartMut.{midOf, putMid}
 use borrow.Author.Tests.{lt-ltb, le-ltb}
 use Rattle.tables.specs.declared.origins.Origin.{Origin}
 use Rattle.sheet.specs.Inputs.{inputsOf}
@@ -12,7 +14,7 @@ use Rattle.sheet.specs.declared.inputs.Inputs.the-variants as inputs
 use Rattle.decomposition.specs.Answers.{morphemeIf, morphemeAnswer}
 use Rattle.decomposition.specs.declared.Morpheme.{Morpheme}
 use Rattle.decomposition.specs.declared.entries.MorphemeAnswer.{MorphemeAnswer}
-use Rattle.ranking.specs.declared.Reading.{Reading}
+use Rattle.ranking.specs.declared.Classified.{Classified}
 use Rattle.analysis.specs.declared.entry.Said.{Said}
 use Rattle.analysis.specs.Answers.{saidOf, rowsGiven}
 use Rattle.roots.specs.Answers.{rootsFor}
@@ -55,10 +57,27 @@ pub candidates-is : (w s out : List ℕ) (i : Inputs) (rows : List RootCandidate
 unfolding candidatesFilled
 candidates-is w s out i rows e q = ap (λ (x : Inputs). candidatesIf x rows out) e ∙ ap (λ (x : List RootCandidate). candidatesIf (inputsOf w s) x out) q
 
-pub readings-is : (w s out : List ℕ) (x : Said) (rows : List Reading) → x ≡ saidOf w s → rows ≡ rowsGiven w s → readingsIf x rows out ≡ readingsFilled w s out
+pub readings-is : (w s out : List ℕ) (x : Said) (rows : List Classified) → x ≡ saidOf w s → rows ≡ rowsGiven w s → readingsIf x rows out ≡ readingsFilled w s out
 unfolding readingsFilled
-readings-is w s out x rows e q = ap (λ (y : Said). readingsIf y rows out) e ∙ ap (λ (l : List Reading). readingsIf (saidOf w s) l out) q
+readings-is w s out x rows e q = ap (λ (y : Said). readingsIf y rows out) e ∙ ap (λ (l : List Classified). readingsIf (saidOf w s) l out) q
 
 -- both parts of what is stated of an answer, from one equation
 pub both : {x y : Filled} {code : ℕ} {later : List ℕ} → x ≡ y → (code ≡ x .code) × (later ≡ x .buffer) → (code ≡ y .code) × (later ≡ y .buffer)
 both e (p, q) = (p ∙ ap (λ (f : Filled). f .code) e, q ∙ ap (λ (f : Filled). f .buffer) e)
+
+-- six bytes stored behind the 22 at the front: `now` holds those, and `part` is what was made of the rest
+pub behind-front : (front tail old now part : List ℕ) → now ≡ front ++ drop 22 old → length front ≡ 22 → length tail ≡ 6
+    → part ≡ tail ++ drop 6 (midOf 22 (length now - 22) now) → putMid 22 (length now - 22) now part ≡ (front ++ tail) ++ drop 28 old
+behind-front front tail old now part e n m p =
+    let k = length now - 22 in
+    let t : take 22 now ≡ front = ap (take 22) e ∙ take-at front (drop 22 old) 22 n in
+    let u : drop 22 now ≡ drop 22 old = ap (drop 22) e ∙ drop-at front (drop 22 old) 22 n in
+    let s : length (drop 22 now) ≤ k = omega (arith, length-drop 22 now) in
+    let v : midOf 22 k now ≡ drop 22 old = take-all k (drop 22 now) s ∙ u in
+    let z : drop k (drop 22 now) ≡ [] = drop-of-length-le (drop 22 now) s in
+    let q : part ≡ tail ++ drop 28 old = p ∙ ap (λ (l : List ℕ). tail ++ drop 6 l) v ∙ ap (λ (l : List ℕ). tail ++ l) (drop-drop 6 22 old) in
+    ap (λ (l : List ℕ). take 22 now ++ (part ++ l)) z
+    ∙ ap (λ (l : List ℕ). take 22 now ++ l) (append-nil part)
+    ∙ ap (λ (l : List ℕ). l ++ part) t
+    ∙ ap (λ (l : List ℕ). front ++ l) q
+    ∙ sym (append-assoc front tail (drop 28 old))

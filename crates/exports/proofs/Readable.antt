@@ -8,6 +8,10 @@ use mathlib.Core.Bool.{Bool, true, false}
 use mathlib.Core.List.{List, [], _∷_, _++_, map, append-assoc}
 use lib.ListN.{length, take, drop, getD}
 use lib.Seq.{take-at, drop-append-add}
+use lib.Dec.{T}
+use lib.Ieee.{Float, binary32, fits, ofBits, toBits}
+use lib.Ieee.Bits.{ofBits-toBits}
+use Rattle.exports.proofs.Sure.{decision-fits}
 use Rattle.text.specs.Word.{wordLimit}
 use Rattle.tables.specs.declared.origins.Origin.{Origin}
 use Rattle.tables.specs.declared.origins.Origin.the-variants.{Tatsam, Tadbhav, Deshaj, Aagantuk}
@@ -26,12 +30,13 @@ use Rattle.progressive.specs.Answers.{answerIf, answerOf}
 use Rattle.progressive.specs.declared.find.Progressive.{Progressive}
 use Rattle.progressive.specs.declared.entry.Answer.{Answer}
 use Rattle.progressive.specs.declared.entry.Answer.the-variants as answers
-use Rattle.ranking.specs.Places.{noReading}
-use Rattle.ranking.specs.Stored.{cells, readingBytes, readingAt, readingWidth}
+use Rattle.ranking.specs.Places.{noRow}
+use Rattle.ranking.specs.Stored.{cells, readingBytes, readingAt}
 use Rattle.ranking.proofs.Backs.{two-read, reading-read}
 use Rattle.ranking.specs.declared.Reading.{Reading}
+use Rattle.ranking.specs.declared.Classified.{Classified}
 use Rattle.paths.specs.Chains.{Route}
-use Rattle.paths.specs.Readings.{readingOf}
+use Rattle.paths.specs.Readings.{rowOf}
 use Rattle.paths.proofs.Promises.{Listed}
 use Rattle.analysis.specs.declared.entry.Said.{Said}
 use Rattle.analysis.specs.declared.entry.Said.the-variants as said
@@ -48,8 +53,8 @@ use Rattle.roots.specs.Lists.{noCandidate}
 use Rattle.roots.specs.Answers.{rootsFor}
 use Rattle.roots.specs.declared.RootCandidate.{RootCandidate}
 use Rattle.exports.specs.Codes.{coded, answered, bit, wordCode, sheetCode, refusalCode, formValue, progressiveCode, originNumber, sourceNumber, originCode}
-use Rattle.exports.specs.Read.{numberOf, valueOf, foundOf, negativeOf, mainEndOf, lemmaLenOf, lemmaAtOf, originOf, sourceOf, originAt, hasBit, partsAt, candidateAt, decompositionAt}
-use Rattle.exports.specs.Rows.{Filled, each, rowsFilled, readingsIf, readingsFilled}
+use Rattle.exports.specs.Read.{numberOf, valueOf, foundOf, negativeOf, mainEndOf, lemmaLenOf, lemmaAtOf, originOf, sourceOf, originAt, sourceAt, fourAt, rowAt, hasBit, partsAt, candidateAt, decompositionAt}
+use Rattle.exports.specs.Rows.{Filled, fourBytes, rowBytes, rowWidth, each, rowsFilled, readingsIf, readingsFilled}
 use Rattle.exports.specs.Filled.{partsBytes, morphemeBytes, candidateBytes, stored, decomposeIf, decomposeFilled, candidatesIf, candidatesFilled}
 use Rattle.exports.proofs.Bounds.{SmallForm, answer-small}
 use Rattle.exports.proofs.Widths.{rows-long}
@@ -188,38 +193,64 @@ module _ {A : Type 0} (width : ℕ) (bytes : A → List ℕ) (back : List ℕ �
       ∙ ap back (drop-append-add (bytes x) (each bytes xs ++ rest) (width * i))
       ∙ rows-read xs i rest (h .1) (le-of-suc-le-suc l)
 
--- two places for prefixes and four for segments
-abbrev Shaped : Reading → Type 0
-Shaped r = (length (r .prefixes) ≡ 2) × (length (r .segments) ≡ 4)
+origin-back : (o : Origin) → originAt (originNumber o) ≡ o
+origin-back Tatsam = refl
+origin-back Tadbhav = refl
+origin-back Deshaj = refl
+origin-back Aagantuk = refl
+
+source-back : (x : OriginSource) → sourceAt (sourceNumber x) ≡ x
+source-back Override = refl
+source-back Kosha = refl
+source-back Heuristic = refl
+source-back Unknown = refl
+
+four-back : (n : ℕ) → n % 256 + 256 * (n / 256 % 256) + 65536 * (n / 65536 % 256) + 16777216 * (n / 16777216) ≡ n
+four-back n = omega arith
+
+-- two places for prefixes and four for segments, and a confidence that is an f32
+abbrev Shaped : Classified → Type 0
+Shaped r = (length (r .reading .prefixes) ≡ 2) × (length (r .reading .segments) ≡ 4) × T (fits binary32 (r .confidence))
+
+row-is : (r : Classified) {x : Reading} {o : Origin} {s : OriginSource} {f : Float} → x ≡ r .reading → o ≡ r .origin → s ≡ r .source → f ≡ r .confidence
+    → record { reading = x; origin = o; source = s; confidence = f } ≡ r
+row-is r e f g h = rw (e, f, g, h)
+
+-- at the front of any bytes a row gives its reading back, with origin, source and confidence
+pub row-read : (r : Classified) (rest : List ℕ) → Shaped r → rowAt (rowBytes r ++ rest) ≡ r
+row-read r rest h =
+    let tail = originNumber (r .origin) ∷ sourceNumber (r .source) ∷ fourBytes (toBits binary32 (r .confidence)) in
+    row-is r
+    (ap readingAt (append-assoc (readingBytes (r .reading)) tail rest) ∙ reading-read (r .reading) (tail ++ rest) (h .0) (h .1))
+    (origin-back (r .origin)) (source-back (r .source))
+    (ap (ofBits binary32) (four-back (toBits binary32 (r .confidence))) ∙ ofBits-toBits binary32 (r .confidence) (h .2))
+
+path-shaped : (w s : List ℕ) (p : Route) → Shaped (rowOf (reply s) w p)
+unfolding rowOf
+path-shaped w s p = (two-prefixes (reply s) w p, four-segments (reply s) w p, decision-fits (reply s) (p .root))
 
 given-shaped : (w s : List ℕ) → saidOf w s ≡ said.Listed → Every Shaped (rowsGiven w s)
 given-shaped w s e =
     let l = given-paths w s e .1 in
     subst (Every Shaped) (l .rows-are) (by (l .paths))
   where
-    by : (ps : List Route) → Every Shaped (map (readingOf (reply s) w) ps)
+    by : (ps : List Route) → Every Shaped (map (rowOf (reply s) w) ps)
     by [] = tt
-    by (p ∷ ps) = ((two-prefixes (reply s) w p, four-segments (reply s) w p), by ps)
+    by (p ∷ ps) = (path-shaped w s p, by ps)
 
--- each reading of a list that is given and fits in is read back from its row in the buffer
-pub readings-read : (w s out : List ℕ) → saidOf w s ≡ said.Listed → readingWidth * length (rowsGiven w s) ≤ length out → (i : ℕ) → i < length (rowsGiven w s)
-    → readingAt (drop (readingWidth * i) (readingsFilled w s out .buffer)) ≡ getD (rowsGiven w s) i noReading
+-- each reading of a list that is given and fits in is read back from its row in the buffer, with its root's origin, source and confidence
+pub readings-read : (w s out : List ℕ) → saidOf w s ≡ said.Listed → rowWidth * length (rowsGiven w s) ≤ length out → (i : ℕ) → i < length (rowsGiven w s)
+    → rowAt (drop (rowWidth * i) (readingsFilled w s out .buffer)) ≡ getD (rowsGiven w s) i noRow
 unfolding readingsFilled
 readings-read w s out e h i l =
-    let f : rowsFilled readingWidth readingBytes (rowsGiven w s) out ≡ readingsIf (saidOf w s) (rowsGiven w s) out = ap (λ (x : Said). readingsIf x (rowsGiven w s) out) (sym e) in
-    let b : each readingBytes (rowsGiven w s) ++ drop (readingWidth * length (rowsGiven w s)) out ≡ readingsIf (saidOf w s) (rowsGiven w s) out .buffer =
-    both f (rows-long readingBytes readingWidth (length (rowsGiven w s)) (rowsGiven w s) out refl _ h refl) .1 in
-    ap (λ (xs : List ℕ). readingAt (drop (readingWidth * i) xs)) (sym b)
-    ∙ rows-read readingWidth readingBytes readingAt noReading Shaped (λ r. refl) (λ r rest h. reading-read r rest (h .0) (h .1))
-    (rowsGiven w s) i (drop (readingWidth * length (rowsGiven w s)) out) (given-shaped w s e) l
+    let f : rowsFilled rowWidth rowBytes (rowsGiven w s) out ≡ readingsIf (saidOf w s) (rowsGiven w s) out = ap (λ (x : Said). readingsIf x (rowsGiven w s) out) (sym e) in
+    let b : each rowBytes (rowsGiven w s) ++ drop (rowWidth * length (rowsGiven w s)) out ≡ readingsIf (saidOf w s) (rowsGiven w s) out .buffer =
+    both f (rows-long rowBytes rowWidth (length (rowsGiven w s)) (rowsGiven w s) out refl _ h refl) .1 in
+    ap (λ (xs : List ℕ). rowAt (drop (rowWidth * i) xs)) (sym b)
+    ∙ rows-read rowWidth rowBytes rowAt noRow Shaped (λ r. refl) row-read
+    (rowsGiven w s) i (drop (rowWidth * length (rowsGiven w s)) out) (given-shaped w s e) l
 
 -- the rows of a candidate and of a decomposition
-
-origin-back : (o : Origin) → originAt (originNumber o) ≡ o
-origin-back Tatsam = refl
-origin-back Tadbhav = refl
-origin-back Deshaj = refl
-origin-back Aagantuk = refl
 
 known-back : (a b : Bool) → (hasBit 1 (bit a + 2 * bit b) ≡ a) × (hasBit 2 (bit a + 2 * bit b) ≡ b)
 known-back true true = (refl, refl)

@@ -23,11 +23,12 @@ use Rattle.sheet.specs.declared.inputs.Inputs.{Inputs}
 use Rattle.sheet.specs.declared.inputs.Inputs.the-variants as inputs
 use Rattle.decomposition.proofs.Short.{word-short}
 use Rattle.lookup.proofs.Readied.{word-said}
-use Rattle.ranking.specs.Stored.{readingWidth, readingAt, readingBytes}
+use Rattle.ranking.specs.Stored.{readingWidth, readingAt}
 use Rattle.ranking.specs.declared.Reading.{Reading}
 use Rattle.sheet.specs.Lines.{sheetCheck}
 use Rattle.sheet.specs.declared.check.SheetCheck.the-variants as sheets
-use Rattle.ranking.specs.Places.{noReading}
+use Rattle.ranking.specs.Places.{noRow}
+use Rattle.ranking.specs.declared.Classified.{Classified}
 use Rattle.analysis.specs.declared.entry.Said.{Said}
 use Rattle.analysis.specs.declared.entry.Said.the-variants as said
 use Rattle.analysis.specs.Answers.{saidOf, rowsGiven}
@@ -38,7 +39,7 @@ use Rattle.writing.specs.Placed.{writtenOf, textOver, Answer}
 use Rattle.listing.specs.Texts.{listingRoom}
 use Rattle.listing.proofs.Room.{surface-size}
 use Rattle.exports.specs.Codes.{Small, writtenCode}
-use Rattle.exports.specs.Rows.{Filled, each, rowsFilled, readingsIf, readingsFilled}
+use Rattle.exports.specs.Rows.{Filled, rowBytes, rowWidth, each, rowsFilled, readingsIf, readingsFilled}
 use Rattle.exports.proofs.Put.{both}
 use Rattle.exports.proofs.Widths.{each-length, rows-long}
 use Rattle.exports.proofs.Readable.{readings-read}
@@ -102,23 +103,24 @@ all-at P (x ∷ xs) (suc i) d h l = all-at P xs i d (h .1) (le-of-suc-le-suc l)
 
 -- each row that `yunthirel_readings` stores for a word gives the word
 module _ (w s out : List ℕ) (aw : wordCheck w ≡ words.Accepted) (ah : sheetCheck s ≡ sheets.Accepted) (given : saidOf w s ≡ said.Listed)
-    (room : readingWidth * length (rowsGiven w s) ≤ length out) (i : ℕ) (inside : i < length (rowsGiven w s)) where
+    (room : rowWidth * length (rowsGiven w s) ≤ length out) (i : ℕ) (inside : i < length (rowsGiven w s)) where
   abbrev stored : List ℕ
-  stored = drop (readingWidth * i) (readingsFilled w s out .buffer)
+  stored = drop (rowWidth * i) (readingsFilled w s out .buffer)
 
   stored-long : readingWidth ≤ length stored
   unfolding readingsFilled
   stored-long =
-      let f : rowsFilled readingWidth readingBytes (rowsGiven w s) out ≡ readingsIf (saidOf w s) (rowsGiven w s) out = ap (λ (x : Said). readingsIf x (rowsGiven w s) out) (sym given) in
-      let b : each readingBytes (rowsGiven w s) ++ drop (readingWidth * length (rowsGiven w s)) out ≡ readingsIf (saidOf w s) (rowsGiven w s) out .buffer =
-      both f (rows-long readingBytes readingWidth (length (rowsGiven w s)) (rowsGiven w s) out refl _ room refl) .1 in
-      let m = ap (length {A = ℕ}) (sym b) ∙ length-append (each readingBytes (rowsGiven w s)) (drop (readingWidth * length (rowsGiven w s)) out) in
-      let e = each-length readingBytes readingWidth (λ r. refl) (rowsGiven w s) in
-      let d = length-drop (readingWidth * i) (readingsIf (saidOf w s) (rowsGiven w s) out .buffer) in
+      let f : rowsFilled rowWidth rowBytes (rowsGiven w s) out ≡ readingsIf (saidOf w s) (rowsGiven w s) out = ap (λ (x : Said). readingsIf x (rowsGiven w s) out) (sym given) in
+      let b : each rowBytes (rowsGiven w s) ++ drop (rowWidth * length (rowsGiven w s)) out ≡ readingsIf (saidOf w s) (rowsGiven w s) out .buffer =
+      both f (rows-long rowBytes rowWidth (length (rowsGiven w s)) (rowsGiven w s) out refl _ room refl) .1 in
+      let m = ap (length {A = ℕ}) (sym b) ∙ length-append (each rowBytes (rowsGiven w s)) (drop (rowWidth * length (rowsGiven w s)) out) in
+      let e = each-length rowBytes rowWidth (λ r. refl) (rowsGiven w s) in
+      let d = length-drop (rowWidth * i) (readingsIf (saidOf w s) (rowsGiven w s) out .buffer) in
       omega arith
 
   pub stored-joined : surfaceText w (readingIn stored) ≡ w
   stored-joined =
       let read = readings-read w s out given room i inside in
-      ap (surfaceText w) (sym (row-long stored stored-long) ∙ read)
-      ∙ joined w (getD (rowsGiven w s) i noReading) (all-at (Recomposed w) (rowsGiven w s) i noReading (all-recomposed w s aw ah given) inside)
+      ap (surfaceText w) (sym (row-long stored stored-long) ∙ ap (λ (r : Classified). r .reading) read)
+      ∙ joined w (getD (rowsGiven w s) i noRow .reading)
+      (all-at (λ (r : Classified). Recomposed w (r .reading)) (rowsGiven w s) i noRow (all-recomposed w s aw ah given) inside)

@@ -1,5 +1,6 @@
 -- How a caller reads what the static library's functions give, as the C header does: shifts and masks of a code are quotients and
--- remainders by powers of 2, and a row of bytes is a candidate or a decomposition (of a reading: `ranking/specs/Stored.readingAt`). Assumes nothing.
+-- remainders by powers of 2, and a row of bytes is a reading with its root's origin (its first 22 bytes: `ranking/specs/Stored.readingAt`), a candidate or a
+-- decomposition. Assumes nothing.
 use Prim.Native.Nat.{ℕ, _+_, _*_, _/_, _%_}
 use mathlib.Core.Bool.{Bool}
 use mathlib.Core.List.{List, [], _∷_}
@@ -7,7 +8,11 @@ use lib.ListN.{take, drop, getD}
 use lib.Dec.{ltb}
 use Rattle.tables.specs.declared.origins.Origin.{Origin}
 use Rattle.tables.specs.declared.origins.Origin.the-variants.{Tatsam, Tadbhav, Deshaj, Aagantuk}
-use Rattle.ranking.specs.Stored.{twoAt}
+use lib.Ieee.{Float, binary32, ofBits}
+use Rattle.ranking.specs.Stored.{twoAt, readingAt}
+use Rattle.ranking.specs.declared.Classified.{Classified}
+use Rattle.origin.specs.declared.OriginSource.{OriginSource}
+use Rattle.origin.specs.declared.OriginSource.the-variants.{Override, Kosha, Heuristic, Unknown}
 use Rattle.decomposition.specs.declared.Parts.{Parts}
 use Rattle.decomposition.specs.declared.Morpheme.{Morpheme}
 use Rattle.roots.specs.declared.RootCandidate.{RootCandidate}
@@ -46,6 +51,23 @@ sourceOf code = valueOf code / 4 % 4
 -- the origin of each number
 abbrev pub originAt : ℕ → Origin
 originAt n = getD (Tatsam ∷ Tadbhav ∷ Deshaj ∷ Aagantuk ∷ []) n Tatsam
+
+-- the source of each number
+abbrev pub sourceAt : ℕ → OriginSource
+sourceAt n = getD (Override ∷ Kosha ∷ Heuristic ∷ Unknown ∷ []) n Override
+
+-- four bytes from the i-th on as a number, the low one first
+abbrev pub fourAt : List ℕ → ℕ → ℕ
+fourAt bytes i = getD bytes i 0 + 256 * getD bytes (i + 1) 0 + 65536 * getD bytes (i + 2) 0 + 16777216 * getD bytes (i + 3) 0
+
+-- the reading with its root's origin whose row stands at the front; the confidence is the f32 with these bits
+abbrev pub rowAt : List ℕ → Classified
+rowAt bytes = record {
+  reading = readingAt bytes;
+  origin = originAt (getD bytes 22 0);
+  source = sourceAt (getD bytes 23 0);
+  confidence = ofBits binary32 (fourAt bytes 24);
+}
 
 -- whether a byte has the bit that this power of 2 stands for
 abbrev pub hasBit : ℕ → ℕ → Bool

@@ -171,7 +171,7 @@ pub(crate) fn written_code(outcome: Written) -> u64
 }
 
 // Writes the list of the word's readings at the front of `out`, as document 01's program prints it, and gives the number of bytes.
-// Where nothing is written, and `out` is as it was: the refusal. 37,258 bytes are always enough.
+// Where nothing is written, and `out` is as it was: the refusal. 37,386 bytes are always enough.
 #[no_mangle]
 pub extern "C" fn yunthirel_listing(word: &[u8], sheet: &[u8], out: &mut [u8]) -> u64
     ensures { λ r. ⌜ (r ≡ writtenCode (outcomeOf (now (word .entry)) (now (sheet .entry)) (now (out .entry))))

@@ -73,7 +73,7 @@ fn bit_of(b: bool) -> u8
     0
 }
 
-fn origin_byte(origin: Origin) -> u8
+pub(crate) fn origin_byte(origin: Origin) -> u8
     ensures { λ r. ⌜ r ≡ originNumber origin ⌝ }
 {
     origin_number(origin) as u8

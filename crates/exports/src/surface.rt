@@ -10,7 +10,7 @@ use sheet::inputs::Inputs;
 ghost use mathlib.Core.Path.{_≡_};
 ghost use Rattle.exports.specs.Surface.{readingIn, surfaceFilled};
 
-// The reading that a row says; of a row with too few bytes, the one without stem and affixes.
+// The reading that a row says, by its first 22 bytes; of a row with fewer, the one without stem and affixes.
 fn row_reading(row: &[u8]) -> Reading
     ensures { λ r. ⌜ r ≡ readingIn (now (row .entry)) ⌝ }
 {

@@ -11,7 +11,7 @@ use Rattle.refusals.specs.declared.Refusal.the-variants.{OutputTooShort}
 use Rattle.refusals.specs.declared.Written.{Written}
 use Rattle.refusals.specs.declared.Written.the-variants.{Wrote, Refused}
 use Rattle.refusals.proofs.Outputs as outputs
-use Rattle.ranking.specs.declared.Reading.{Reading}
+use Rattle.ranking.specs.declared.Classified.{Classified}
 use Rattle.analysis.specs.declared.entry.Said.{Said}
 use Rattle.analysis.specs.declared.entry.Said.the-variants as said
 use Rattle.analysis.specs.Answers.{saidOf, rowsGiven}
@@ -39,7 +39,7 @@ module _ {A : Type 0} where
       ap (λ (l : List A). l ++ drop c ys) e ∙ ap (λ (k : ℕ). given ++ drop k ys) z
   put-out (Refused r) given rows ys c h e = untouched rows ys c h e
 
-pub is-output : (w s : List ℕ) (f : Written) (rows ys : List Reading) (c : ℕ) → f ≡ filledOf w s (length ys) → c ≤ length rows → take c rows ≡ written f (rowsGiven w s)
+pub is-output : (w s : List ℕ) (f : Written) (rows ys : List Classified) (c : ℕ) → f ≡ filledOf w s (length ys) → c ≤ length rows → take c rows ≡ written f (rowsGiven w s)
     → take c rows ++ drop c ys ≡ outputOf w s ys
 unfolding outputOf
 is-output w s f rows ys c e h t = put-out f (rowsGiven w s) rows ys c h t ∙ ap (λ (g : Written). outputBy g (rowsGiven w s) ys) e

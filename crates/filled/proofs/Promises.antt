@@ -17,44 +17,49 @@ use Rattle.refusals.specs.declared.Written.the-variants.{Wrote}
 use Rattle.refusals.proofs.Lowest.{AtLeast, at-least-if, lead}
 use Rattle.refusals.proofs.Outputs.{room-lowest, eight-short, short-eight, none-wrote, left-by, output-length}
 use Rattle.sheet.specs.Inputs.{inputsOf, numbersGiven, causes}
+use Rattle.sheet.specs.Replies.{reply}
 use Rattle.sheet.specs.declared.inputs.Inputs.{Inputs}
 use Rattle.sheet.specs.declared.inputs.Inputs.the-variants as inputs
 use Rattle.sheet.proofs.Refusals.{lowest-then, refused-low}
 use Rattle.ranking.specs.Lists.{listLimit, Rows, rows, over}
-use Rattle.ranking.specs.declared.Reading.{Reading}
+use Rattle.ranking.specs.declared.Classified.{Classified}
 use Rattle.analysis.specs.declared.entry.Said.{Said}
 use Rattle.analysis.specs.declared.entry.Said.the-variants as said
 use Rattle.analysis.specs.Answers.{collected, listedRows, saidBy, rowsBy, saidOf, rowsGiven, saidNumbers}
 use Rattle.analysis.proofs.Promises.{rows-few, said-below}
 use Rattle.filled.specs.Filled.{filledBy, filledOf, outputOf, tooMany, filledLowest}
 
-abbrev short : Rows → ℕ → List Refusal
-short c room = causeIf (ltb room (length (listedRows c))) OutputTooShort
+module _ (w s : List ℕ) where
+  abbrev given : Rows → List Classified
+  given c = listedRows (reply s) w c
 
-many-least : (c : Rows) (room : ℕ) → AtLeast 7 (tooMany c ++ short c room)
-many-least c room = by c (ltb room (length (listedRows c)))
-  where
-    by : (c : Rows) (b : Bool) → AtLeast 7 (tooMany c ++ causeIf b OutputTooShort)
-    by (rows rs) true = (omega arith, tt)
-    by (rows rs) false = tt
-    by over true = (omega arith, (omega arith, tt))
-    by over false = (omega arith, tt)
+  abbrev short : Rows → ℕ → List Refusal
+  short c room = causeIf (ltb room (length (given c))) OutputTooShort
 
-by-inputs : (i : Inputs) (c : Rows) (room : ℕ)
-    → writtenNumbers (filledBy (saidBy i c) (length (rowsBy i c)) room) ≡ orElse (numbersGiven i) (lowestNumbersOf (tooMany c ++ short c room))
-by-inputs (inputs.Refused r) c room = refl
-by-inputs inputs.Accepted (rows rs) room = room-lowest (length rs) room
-by-inputs inputs.Accepted over room = sym (lead true TooManyReadings (short over room) (by (ltb room 0)))
-  where
-    by : (b : Bool) → AtLeast 7 (causeIf b OutputTooShort)
-    by true = (omega arith, tt)
-    by false = tt
+  many-least : (c : Rows) (room : ℕ) → AtLeast 7 (tooMany c ++ short c room)
+  many-least c room = by c (ltb room (length (given c)))
+    where
+      by : (c : Rows) (b : Bool) → AtLeast 7 (tooMany c ++ causeIf b OutputTooShort)
+      by (rows rs) true = (omega arith, tt)
+      by (rows rs) false = tt
+      by over true = (omega arith, (omega arith, tt))
+      by over false = (omega arith, tt)
 
--- the number that is given is the lowest that applies
-pub lowest-number : (w s : List ℕ) (room : ℕ) → writtenNumbers (filledOf w s room) ≡ filledLowest w s room
-unfolding filledOf filledLowest saidOf rowsGiven
-lowest-number w s room =
-    by-inputs (inputsOf w s) (collected w s) room ∙ sym (lowest-then w s (tooMany (collected w s) ++ short (collected w s) room) (many-least (collected w s) room))
+  by-inputs : (i : Inputs) (c : Rows) (room : ℕ)
+      → writtenNumbers (filledBy (saidBy i c) (length (rowsBy i (given c))) room) ≡ orElse (numbersGiven i) (lowestNumbersOf (tooMany c ++ short c room))
+  by-inputs (inputs.Refused r) c room = refl
+  by-inputs inputs.Accepted (rows rs) room = room-lowest (length (given (rows rs))) room
+  by-inputs inputs.Accepted over room = sym (lead true TooManyReadings (short over room) (by (ltb room 0)))
+    where
+      by : (b : Bool) → AtLeast 7 (causeIf b OutputTooShort)
+      by true = (omega arith, tt)
+      by false = tt
+
+  -- the number that is given is the lowest that applies
+  pub lowest-number : (room : ℕ) → writtenNumbers (filledOf w s room) ≡ filledLowest w s room
+  unfolding filledOf filledLowest saidOf rowsGiven
+  lowest-number room =
+      by-inputs (inputsOf w s) (collected w s) room ∙ sym (lowest-then w s (tooMany (collected w s) ++ short (collected w s) room) (many-least (collected w s) room))
 
 abbrev first : List ℕ → ℕ
 first l = getD l 0 0
@@ -90,12 +95,12 @@ enough w s room h e =
     absurd (omega arith)
 
 -- with any number, the slice is left as it was
-pub left : (w s : List ℕ) (old : List Reading) (n : ℕ) (ns : List ℕ) → writtenNumbers (filledOf w s (length old)) ≡ n ∷ ns → outputOf w s old ≡ old
+pub left : (w s : List ℕ) (old : List Classified) (n : ℕ) (ns : List ℕ) → writtenNumbers (filledOf w s (length old)) ≡ n ∷ ns → outputOf w s old ≡ old
 unfolding outputOf
 left w s old n ns e = left-by (filledOf w s (length old)) (rowsGiven w s) old n ns e
 
 -- without one, so many readings as the list has are written, and the elements past them are left
-pub wrote : (w s : List ℕ) (old : List Reading) → writtenNumbers (filledOf w s (length old)) ≡ []
+pub wrote : (w s : List ℕ) (old : List Classified) → writtenNumbers (filledOf w s (length old)) ≡ []
     → (filledOf w s (length old) ≡ Wrote (length (rowsGiven w s))) × (outputOf w s old ≡ rowsGiven w s ++ drop (length (rowsGiven w s)) old)
 unfolding filledOf outputOf
 wrote w s old e =
@@ -107,7 +112,7 @@ wrote w s old e =
     by (said.Refused r) e = let z = ap (length {A = ℕ}) e in absurd (omega arith)
 
 -- the slice is as long as before
-pub same-length : (w s : List ℕ) (old : List Reading) → length (outputOf w s old) ≡ length old
+pub same-length : (w s : List ℕ) (old : List Classified) → length (outputOf w s old) ≡ length old
 unfolding filledOf outputOf
 same-length w s old = by (saidOf w s)
   where

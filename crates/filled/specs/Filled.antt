@@ -10,8 +10,9 @@ use Rattle.refusals.specs.declared.Refusal.the-variants.{TooManyReadings, Outpu
 use Rattle.refusals.specs.declared.Written.{Written}
 use Rattle.refusals.specs.declared.Written.the-variants.{Wrote, Refused}
 use Rattle.sheet.specs.Inputs.{causes}
+use Rattle.sheet.specs.Replies.{reply}
 use Rattle.ranking.specs.Lists.{Rows, rows, over}
-use Rattle.ranking.specs.declared.Reading.{Reading}
+use Rattle.ranking.specs.declared.Classified.{Classified}
 use Rattle.analysis.specs.declared.entry.Said.{Said}
 use Rattle.analysis.specs.declared.entry.Said.the-variants as said
 use Rattle.analysis.specs.Answers.{collected, listedRows, saidOf, rowsGiven}
@@ -26,7 +27,7 @@ unfoldable pub filledOf : List ℕ → List ℕ → ℕ → Written
 filledOf w s room = filledBy (saidOf w s) (length (rowsGiven w s)) room
 
 -- what the slice holds: the readings and then its old elements, or its old elements alone
-unfoldable pub outputOf : List ℕ → List ℕ → List Reading → List Reading
+unfoldable pub outputOf : List ℕ → List ℕ → List Classified → List Classified
 outputOf w s old = outputBy (filledOf w s (length old)) (rowsGiven w s) old
 
 -- the rows that are written by such an answer
@@ -41,4 +42,4 @@ tooMany over = TooManyReadings ∷ []
 
 unfoldable pub filledLowest : List ℕ → List ℕ → ℕ → List ℕ
 filledLowest w s room =
-    lowestNumbersOf (causes w s ++ (tooMany (collected w s) ++ causeIf (ltb room (length (listedRows (collected w s)))) OutputTooShort))
+    lowestNumbersOf (causes w s ++ (tooMany (collected w s) ++ causeIf (ltb room (length (listedRows (reply s) w (collected w s)))) OutputTooShort))

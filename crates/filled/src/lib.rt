@@ -1,8 +1,8 @@
 // The entry that fills a lent slice of readings: the core call's list, copied; the elements past it are left.
 use analysis::entry::Said;
 use analysis::entry::analyze_affixes;
+use ranking::Classified;
 use ranking::Listing;
-use ranking::Reading;
 use refusals::Refusal;
 use refusals::Written;
 ghost use mathlib.Core.Path.{_≡_};
@@ -10,7 +10,7 @@ ghost use mathlib.Core.List.{_++_};
 ghost use Prim.Native.Nat.{_≤_, _<_};
 ghost use lib.ListN.{length, take, drop, getD};
 ghost use Rattle.ranking.specs.Lists.{listLimit, rowsOf};
-ghost use Rattle.ranking.specs.Places.{noReading};
+ghost use Rattle.ranking.specs.Places.{noRow};
 ghost use Rattle.analysis.specs.Answers.{rowsGiven};
 ghost use Rattle.filled.specs.Filled.{filledOf, written, outputOf};
 
@@ -67,15 +67,15 @@ fn planned(word: &[u8], sheet: &[u8], room: usize) -> Plan
 }
 
 // Row i of a list.
-fn row_at(list: Listing, i: usize) -> Reading
+fn row_at(list: Listing, i: usize) -> Classified
     requires { ⌜ i < listLimit ⌝ }
-    ensures { λ r. ⌜ r ≡ getD (list .rows) i noReading ⌝ }
+    ensures { λ r. ⌜ r ≡ getD (list .rows) i noRow ⌝ }
 {
     list.rows[i]
 }
 
 // Copies the first n rows of the list to the front of the slice.
-fn copy_rows(out: &mut [Reading], list: Listing, n: usize)
+fn copy_rows(out: &mut [Classified], list: Listing, n: usize)
     requires { ⌜ (n ≤ length (now out)) × (n ≤ listLimit) ⌝ }
     ensures { λ _. ⌜ now (out .exit) ≡ take n (list .rows) ++ drop n (now (out .entry)) ⌝ }
 {
@@ -89,7 +89,7 @@ fn copy_rows(out: &mut [Reading], list: Listing, n: usize)
 
 // The readings of the word, written to the front of the slice in rank order; the elements past them are left, and all of them where
 // anything is refused.
-pub fn fill_readings(word: &[u8], sheet: &[u8], out: &mut [Reading]) -> Written
+pub fn fill_readings(word: &[u8], sheet: &[u8], out: &mut [Classified]) -> Written
     ensures { λ r. ⌜ (r ≡ filledOf (now (word .entry)) (now (sheet .entry)) (length (now (out .entry))))
         × (now (out .exit) ≡ outputOf (now (word .entry)) (now (sheet .entry)) (now (out .entry))) ⌝ }
 {

@@ -1,4 +1,4 @@
--- How long a text can be: of a word of at most 192 bytes, a row has at most 582 bytes and a list of 64 rows at most 37,258. Assumes
+-- How long a text can be: of a word of at most 192 bytes, a row has at most 584 bytes and a list of 64 rows at most 37,386. Assumes
 -- nothing.
 use Prim.Native.Nat.{ℕ, zero, suc, _+_, _-_, _*_, _/_, _%_, _≤_, _<_, min}
 use native.Mathlib.Omega.{arith}
@@ -18,16 +18,17 @@ use Rattle.ranking.specs.declared.AffixKind.{AffixKind}
 use Rattle.ranking.specs.declared.AffixKind.the-variants.{Particle, CaseMarker, PluralMarker, Postposition, ComparisonMarker}
 use Rattle.ranking.specs.declared.Segment.{Segment}
 use Rattle.ranking.specs.declared.Reading.{Reading}
+use Rattle.ranking.specs.declared.Classified.{Classified}
 use Rattle.strips.specs.Suffix.{firstLength}
 use Rattle.paths.specs.Chains.{formOf}
 use Rattle.paths.specs.Recomposed.{inRow, writtenOf, surfaceText}
 use Rattle.writing.specs.Refused.{refusedText}
-use Rattle.listing.specs.Texts.{kindText, markText, segmentText, labelText, prefixTexts, segmentTexts, rowText, rowTexts, listingText, rowRoom, listingRoom}
+use Rattle.listing.specs.Texts.{kindText, markText, segmentText, labelText, prefixTexts, segmentTexts, readingText, endText, rowText, rowTexts, listingText, readingRoom, rowRoom, listingRoom}
 use Rattle.writing.proofs.Sizes.{parted-size, digit-size, count-size, number-size}
 
 -- a row of a table none of whose rows is longer than m, and what stands for one that is not there
-row-size : (rows : List (List ℕ)) (m : ℕ) → every (λ _ r. leb (length r) m) 0 rows ≡ true → (k : ℕ) → length (getD rows k []) ≤ m
-row-size rows m t k = by (ltb k (length rows)) refl
+table-size : (rows : List (List ℕ)) (m : ℕ) → every (λ _ r. leb (length r) m) 0 rows ≡ true → (k : ℕ) → length (getD rows k []) ≤ m
+table-size rows m t k = by (ltb k (length rows)) refl
   where
     by : (b : Bool) → ltb k (length rows) ≡ b → length (getD rows k []) ≤ m
     by true e = leb-true _ _ (at (λ _ r. leb (length r) m) rows t k [] (ltb-true _ _ e))
@@ -35,11 +36,11 @@ row-size rows m t k = by (ltb k (length rows)) refl
 
 label-size : (k : ℕ) → length (labelText k) ≤ 15
 unfolding prefixLabels
-label-size k = row-size prefixLabels 15 refl k
+label-size k = table-size prefixLabels 15 refl k
 
 affix-size : (k : ℕ) → length (getD affixes k []) ≤ 18
 unfolding affixes pluralMarkers caseMarkers particles
-affix-size k = row-size affixes 18 refl k
+affix-size k = table-size affixes 18 refl k
 
 kind-size : (k : AffixKind) → length (kindText k) ≤ 8
 kind-size Particle = omega arith
@@ -69,8 +70,8 @@ part-size w from to = by (leb from to && leb to (length w))
     by false = omega arith
 
 pub reading-size : (w : List ℕ) (r : Reading) → length w ≤ 192 → length (r .prefixes) ≡ 2 → length (r .segments) ≡ 4 → r .score < 65536
-    → length (rowText w r) ≤ rowRoom
-unfolding rowText
+    → length (readingText w r) ≤ readingRoom
+unfolding readingText
 reading-size w r h p s c =
     let a = part-size w 0 (r .stem) in
     let b = part-size w (r .root) (r .stem) in
@@ -81,18 +82,23 @@ reading-size w r h p s c =
     let n = number-size (r .score) (omega arith) in
     simp length-append (omega arith)
 
+-- with the tag letter and what closes the row
+pub row-size : (w : List ℕ) (r : Classified) → length (readingText w (r .reading)) ≤ readingRoom → length (rowText w r) ≤ rowRoom
+unfolding rowText
+row-size w r h = let n = length-append (readingText w (r .reading)) (endText (r .origin)) in omega arith
+
 -- the rows from the i-th on, where those before it have at most `rowRoom` bytes each
-module _ (w : List ℕ) (i whole : ℕ) (rs : List Reading) (so-far : whole ≤ i * rowRoom + length (rowTexts w rs)) where
-  pub rows-turn : (r : Reading) (rest : List Reading) → rs ≡ r ∷ rest → length (rowText w r) ≤ rowRoom → whole ≤ (i + 1) * rowRoom + length (rowTexts w rest)
-  rows-turn r rest e h = let z = ap (λ (l : List Reading). length (rowTexts w l)) e ∙ length-append (rowText w r) (rowTexts w rest) in omega arith
+module _ (w : List ℕ) (i whole : ℕ) (rs : List Classified) (so-far : whole ≤ i * rowRoom + length (rowTexts w rs)) where
+  pub rows-turn : (r : Classified) (rest : List Classified) → rs ≡ r ∷ rest → length (rowText w r) ≤ rowRoom → whole ≤ (i + 1) * rowRoom + length (rowTexts w rest)
+  rows-turn r rest e h = let z = ap (λ (l : List Classified). length (rowTexts w l)) e ∙ length-append (rowText w r) (rowTexts w rest) in omega arith
 
   pub rows-end : (n : ℕ) → i ≤ n → rs ≡ [] → whole ≤ n * rowRoom
-  rows-end n h e = let z = ap (λ (l : List Reading). length (rowTexts w l)) e in omega arith
+  rows-end n h e = let z = ap (λ (l : List Classified). length (rowTexts w l)) e in omega arith
 
 -- what a reading puts together is short too
 form-size : (k : ℕ) → length (formOf k) ≤ 15
 unfolding prefixForms
-form-size k = row-size prefixForms 15 refl k
+form-size k = table-size prefixForms 15 refl k
 
 written-size : (s : Segment) → length (writtenOf s) ≤ 18
 written-size s = by (s .shared)
@@ -122,7 +128,7 @@ surface-size w r h p s =
     let e = in-row-size writtenOf 18 written-size (take (r .«suffix_count») (r .segments)) in
     simp length-append (omega arith)
 
-pub listing-size : (w : List ℕ) (rs : List Reading) (n : ℕ) → n ≤ 64 → n ≡ length rs → length (rowTexts w rs) ≤ n * rowRoom → length (listingText w rs) ≤ listingRoom
+pub listing-size : (w : List ℕ) (rs : List Classified) (n : ℕ) → n ≤ 64 → n ≡ length rs → length (rowTexts w rs) ≤ n * rowRoom → length (listingText w rs) ≤ listingRoom
 unfolding listingText
 listing-size w rs n h e r = let d = count-size (length rs) (omega arith) in simp length-append (omega arith)
 

@@ -17,7 +17,7 @@ use Rattle.sheet.specs.declared.inputs.Inputs.{Inputs}
 use Rattle.sheet.specs.declared.inputs.Inputs.the-variants as inputs
 use Rattle.sheet.proofs.Refusals.{accepted-each, refused-placed, refused-low}
 use Rattle.ranking.specs.Lists.{Rows, rows, over}
-use Rattle.ranking.specs.declared.Reading.{Reading}
+use Rattle.ranking.specs.declared.Classified.{Classified}
 use Rattle.analysis.specs.Answers.{collected, saidBy, saidOf, rowsGiven}
 use Rattle.analysis.specs.declared.entry.Said.{Said}
 use Rattle.analysis.specs.declared.entry.Said.the-variants.{Listed, Refused}
@@ -36,7 +36,7 @@ ShortLine (Refused r) = length (refusedText (numbersOf r)) ≤ listingRoom
 
 module _ (w s : List ℕ) where
   -- the list
-  pub text-listed : (rs : List Reading) → saidOf w s ≡ Listed → rs ≡ rowsGiven w s → listingText w rs ≡ readingsText w s
+  pub text-listed : (rs : List Classified) → saidOf w s ≡ Listed → rs ≡ rowsGiven w s → listingText w rs ≡ readingsText w s
   unfolding readingsText
   text-listed rs e q = ap (listingText w) q ∙ sym (ap (λ (x : Said). saidText w x (rowsGiven w s)) e)
 
@@ -80,16 +80,16 @@ module _ (w s : List ℕ) where
         subst (λ (t : List ℕ). length t ≤ listingRoom) (text-refused r (numbersOf r) e refl) (refused-short r e),
       )
 
-  pub gives-listed : (out new : List ℕ) (rs : List Reading) (y : Written) → saidOf w s ≡ Listed → rs ≡ rowsGiven w s → Answer (listingText w rs) out new y
+  pub gives-listed : (out new : List ℕ) (rs : List Classified) (y : Written) → saidOf w s ≡ Listed → rs ≡ rowsGiven w s → Answer (listingText w rs) out new y
       → (length w ≤ wordLimit → length (listingText w rs) ≤ listingRoom)
       → (y ≡ outcomeOf w s out) × (new ≡ leftOf w s out) × (length (readingsText w s) ≤ listingRoom)
   unfolding outcomeOf leftOf
   gives-listed out new rs y e q a l =
       let o : writtenOf (listingText w (rowsGiven w s)) out ≡ outcomeBy (saidOf w s) (writtenOf (listingText w (rowsGiven w s)) out) =
       sym (ap (λ (x : Said). outcomeBy x (writtenOf (listingText w (rowsGiven w s)) out)) e) in (
-        a .given ∙ ap (λ (x : List Reading). writtenOf (listingText w x) out) q ∙ o,
+        a .given ∙ ap (λ (x : List Classified). writtenOf (listingText w x) out) q ∙ o,
         a .left
-            ∙ ap (λ (x : List Reading). textOver (listingText w x) out) q
+            ∙ ap (λ (x : List Classified). textOver (listingText w x) out) q
             ∙ ap (λ (x : Written). outputBy x (listingText w (rowsGiven w s)) out) o,
         subst (λ (t : List ℕ). length t ≤ listingRoom) (text-listed rs e q) (l (listed-short e)),
       )
@@ -99,7 +99,7 @@ module _ (w s : List ℕ) where
       → Answer (readingsText w s) out new y × (length (readingsText w s) ≤ listingRoom)
   prints-refused r e a = answer-as (text-refused r (numbersOf r) e refl) a (refused-short r e)
 
-  pub prints-listed : {out new : List ℕ} {y : Written} (rs : List Reading) → saidOf w s ≡ Listed → rs ≡ rowsGiven w s → Answer (listingText w rs) out new y
+  pub prints-listed : {out new : List ℕ} {y : Written} (rs : List Classified) → saidOf w s ≡ Listed → rs ≡ rowsGiven w s → Answer (listingText w rs) out new y
       → (length w ≤ wordLimit → length (listingText w rs) ≤ listingRoom)
       → Answer (readingsText w s) out new y × (length (readingsText w s) ≤ listingRoom)
   prints-listed rs e q a l = answer-as (text-listed rs e q) a (l (listed-short e))

@@ -9,9 +9,12 @@ use Rattle.ranking.specs.Parts.{part}
 use Rattle.ranking.specs.declared.AffixKind.the-variants.{Particle, CaseMarker, Postposition}
 use Rattle.ranking.specs.declared.Segment.{Segment}
 use Rattle.ranking.specs.declared.Reading.{Reading}
+use Rattle.ranking.specs.declared.Classified.{Classified}
+use Rattle.ranking.specs.Lists.{withOrigin}
+use Rattle.origin.specs.Decisions.{noEvidence}
 use Rattle.writing.specs.Decimal.{digitsIn, decimal}
 use Rattle.writing.specs.Refused.{refusedText}
-use Rattle.listing.specs.Texts.{segmentText, rowText, listingText}
+use Rattle.listing.specs.Texts.{segmentText, readingText, rowText, listingText}
 
 -- घरले
 abbrev word : List ℕ
@@ -32,10 +35,14 @@ reading = record {
   «suffix_count» = 1;
 }
 
+-- of its root nothing is known, so that it is taken for Deshaj
+abbrev row : Classified
+row = withOrigin reading noEvidence
+
 -- (list 1)
--- (r घर घर () ((ले case)) 279)
-pub listing-worked : listingText word (reading ∷ []) ≡ 40 ∷ 108 ∷ 105 ∷ 115 ∷ 116 ∷ 32 ∷ 49 ∷ 41 ∷ 10 ∷ 40 ∷ 114 ∷ 32 ∷ 224 ∷ 164 ∷ 152 ∷ 224 ∷ 164 ∷ 176 ∷ 32 ∷ 224 ∷ 164 ∷ 152 ∷ 224 ∷ 164 ∷ 176 ∷ 32 ∷ 40 ∷ 41 ∷ 32 ∷ 40 ∷ 40 ∷ 224 ∷ 164 ∷ 178 ∷ 224 ∷ 165 ∷ 135 ∷ 32 ∷ 99 ∷ 97 ∷ 115 ∷ 101 ∷ 41 ∷ 41 ∷ 32 ∷ 50 ∷ 55 ∷ 57 ∷ 41 ∷ 10 ∷ []
-unfolding prefixLabels pluralMarkers caseMarkers particles affixes part digitsIn decimal segmentText rowText listingText
+-- (r घर घर () ((ले case)) 279 d)
+pub listing-worked : listingText word (row ∷ []) ≡ 40 ∷ 108 ∷ 105 ∷ 115 ∷ 116 ∷ 32 ∷ 49 ∷ 41 ∷ 10 ∷ 40 ∷ 114 ∷ 32 ∷ 224 ∷ 164 ∷ 152 ∷ 224 ∷ 164 ∷ 176 ∷ 32 ∷ 224 ∷ 164 ∷ 152 ∷ 224 ∷ 164 ∷ 176 ∷ 32 ∷ 40 ∷ 41 ∷ 32 ∷ 40 ∷ 40 ∷ 224 ∷ 164 ∷ 178 ∷ 224 ∷ 165 ∷ 135 ∷ 32 ∷ 99 ∷ 97 ∷ 115 ∷ 101 ∷ 41 ∷ 41 ∷ 32 ∷ 50 ∷ 55 ∷ 57 ∷ 32 ∷ 100 ∷ 41 ∷ 10 ∷ []
+unfolding prefixLabels pluralMarkers caseMarkers particles affixes part digitsIn decimal segmentText readingText rowText listingText
 listing-worked = refl
 
 -- (refused 4)

@@ -6,7 +6,7 @@ use lib.ListN.{length, take, drop}
 use lib.Dec.{leb}
 use Rattle.bytes.specs.Bytes.{indexOf}
 use Rattle.runs.specs.Runs.{pick}
-use Rattle.ranking.specs.declared.Reading.{Reading}
+use Rattle.ranking.specs.declared.Classified.{Classified}
 use Rattle.refusals.specs.Refusals.{numbersOf, outputBy}
 use Rattle.refusals.specs.declared.Refusal.the-variants.{SheetTooLong}
 use Rattle.refusals.specs.declared.Written.{Written}
@@ -31,7 +31,7 @@ unfoldable pub leftOf : List ℕ → List ℕ → List ℕ → List ℕ
 leftOf w s out = outputBy (outcomeOf w s out) (listingText w (rowsGiven w s)) out
 
 -- What is printed: the list, or a line with the numbers of the refusal.
-abbrev pub saidText : List ℕ → Said → List Reading → List ℕ
+abbrev pub saidText : List ℕ → Said → List Classified → List ℕ
 saidText w Listed rs = listingText w rs
 saidText w (Refused r) rs = refusedText (numbersOf r)
 

@@ -11,6 +11,9 @@ use Rattle.ranking.specs.declared.AffixKind.{AffixKind}
 use Rattle.ranking.specs.declared.AffixKind.the-variants.{Particle, CaseMarker, PluralMarker, Postposition, ComparisonMarker}
 use Rattle.ranking.specs.declared.Segment.{Segment}
 use Rattle.ranking.specs.declared.Reading.{Reading}
+use Rattle.ranking.specs.declared.Classified.{Classified}
+use Rattle.tables.specs.Origins.{letterOf}
+use Rattle.tables.specs.declared.origins.Origin.{Origin}
 use Rattle.writing.specs.Decimal.{decimal}
 use Rattle.writing.specs.Refused.{parted}
 
@@ -48,9 +51,9 @@ prefixTexts r = map labelText (take (r .«prefix_count») (r .prefixes))
 abbrev pub segmentTexts : Reading → List (List ℕ)
 segmentTexts r = map segmentText (take (r .«suffix_count») (r .segments))
 
--- (r STEM ROOT (LABELS) (SEGMENTS) SCORE) and 0A, for a reading of the word w
-unfoldable pub rowText : List ℕ → Reading → List ℕ
-rowText w r =
+-- (r STEM ROOT (LABELS) (SEGMENTS) SCORE and a space, for a reading of the word w
+unfoldable pub readingText : List ℕ → Reading → List ℕ
+readingText w r =
     (0x28 ∷ 0x72 ∷ 0x20 ∷ [])  -- (r
     ++ (stemText w r
     ++ ((0x20 ∷ [])
@@ -61,14 +64,22 @@ rowText w r =
     ++ (parted (segmentTexts r)
     ++ ((0x29 ∷ 0x20 ∷ [])  -- )
     ++ (decimal (r .score)
-    ++ (0x29 ∷ 0x0A ∷ []))))))))))  -- ) and 0A
+    ++ (0x20 ∷ []))))))))))
 
-abbrev pub rowTexts : List ℕ → List Reading → List ℕ
+-- the tag letter of an origin, t b d a, then ) and 0A
+abbrev pub endText : Origin → List ℕ
+endText o = letterOf o ∷ 0x29 ∷ 0x0A ∷ []
+
+-- (r STEM ROOT (LABELS) (SEGMENTS) SCORE TAG) and 0A: TAG is the letter of the root's origin
+unfoldable pub rowText : List ℕ → Classified → List ℕ
+rowText w r = readingText w (r .reading) ++ endText (r .origin)
+
+abbrev pub rowTexts : List ℕ → List Classified → List ℕ
 rowTexts w [] = []
 rowTexts w (r ∷ rs) = rowText w r ++ rowTexts w rs
 
 -- (list N) and 0A, then the rows
-unfoldable pub listingText : List ℕ → List Reading → List ℕ
+unfoldable pub listingText : List ℕ → List Classified → List ℕ
 listingText w rs =
     (0x28 ∷ 0x6C ∷ 0x69 ∷ 0x73 ∷ 0x74 ∷ 0x20 ∷ [])  -- (list
     ++ (decimal (length rs)
@@ -76,8 +87,11 @@ listingText w rs =
     ++ rowTexts w rs))
 
 -- how long a row and a list can be, of a word that is not too long: the first line has at most 10 bytes
+abbrev pub readingRoom : ℕ
+readingRoom = 581
+
 abbrev pub rowRoom : ℕ
-rowRoom = 582
+rowRoom = readingRoom + 3
 
 abbrev pub listingRoom : ℕ
 listingRoom = 10 + listLimit * rowRoom

@@ -14,7 +14,7 @@ ghost use Rattle.listing.specs.Texts.{listingRoom};
 ghost use Rattle.listing.specs.Printed.{outcomeOf, leftOf, readingsText, printed};
 
 // Writes the list of the word's readings at the front of `out`. A refused word or sheet, too many readings and too short a buffer
-// leave it as it was. 37,258 bytes are always enough.
+// leave it as it was. 37,386 bytes are always enough.
 pub fn write_readings(word: &[u8], sheet: &[u8], out: &mut [u8]) -> Written
     ensures { λ r. ⌜ (r ≡ outcomeOf (now (word .entry)) (now (sheet .entry)) (now (out .entry))) × (now (out .exit) ≡ leftOf (now (word .entry)) (now (sheet .entry)) (now (out .entry))) × (length (readingsText (now (word .entry)) (now (sheet .entry))) ≤ listingRoom) ⌝ }
 {

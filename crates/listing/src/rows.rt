@@ -1,11 +1,13 @@
 // The rows of a listing, put piece by piece. The tables are lent down: the labels of the prefixes with their starts, and the 25 texts
 // with theirs.
 use ranking::AffixKind;
+use ranking::Classified;
 use ranking::Listing;
 use ranking::Reading;
 use ranking::Segment;
 use ranking::root_of;
 use ranking::stem_of;
+use tables::origins::Origin;
 use writing::put;
 use writing::put_decimal;
 ghost use mathlib.Core.Path.{_≡_};
@@ -18,7 +20,7 @@ ghost use Rattle.tables.specs.Rows.{prefixLabels};
 ghost use Rattle.ranking.specs.Lists.{rowsOf};
 ghost use Rattle.writing.specs.Placed.{Wrote};
 ghost use Rattle.writing.specs.Refused.{gap, parted, refusedText};
-ghost use Rattle.listing.specs.Texts.{kindText, markText, segmentText, prefixTexts, segmentTexts, rowText, rowTexts, listingText, rowRoom, listingRoom};
+ghost use Rattle.listing.specs.Texts.{kindText, markText, segmentText, prefixTexts, segmentTexts, readingText, endText, rowText, rowTexts, listingText, readingRoom, rowRoom, listingRoom};
 ghost use Rattle.listing.specs.Labels.{labelAt};
 
 pub(crate) fn wide8(x: u8) -> usize
@@ -132,8 +134,8 @@ fn put_segments(out: &mut [u8], at: usize, texts: &[u8], cuts: &[u16], row: Read
     next
 }
 
-// Puts a row: stem, root, prefix labels, segments and score of a reading.
-fn put_row(
+// Puts what a row says of a reading: stem, root, prefix labels, segments and score, with a space behind it.
+fn put_reading(
     out: &mut [u8],
     at: usize,
     word: &[u8],
@@ -144,7 +146,7 @@ fn put_row(
     row: Reading,
 ) -> usize
     requires { ⌜ Laid prefixLabels (now labels) (now starts) × Laid affixes (now texts) (now cuts) ⌝ }
-    ensures { λ r. ⌜ Wrote (now (out .entry)) (now (out .exit)) at r (rowText (now (word .entry)) row) × (length (now (word .entry)) ≤ wordLimit → length (rowText (now (word .entry)) row) ≤ rowRoom) ⌝ }
+    ensures { λ r. ⌜ Wrote (now (out .entry)) (now (out .exit)) at r (readingText (now (word .entry)) row) × (length (now (word .entry)) ≤ wordLimit → length (readingText (now (word .entry)) row) ≤ readingRoom) ⌝ }
 {
     let a = put(out, at, b"(r ");
     let b = put(out, a, stem_of(word, row));
@@ -156,7 +158,39 @@ fn put_row(
     let h = put_segments(out, g, texts, cuts, row);
     let i = put(out, h, b") ");
     let j = put_decimal(out, i, wide16(row.score));
-    put(out, j, b")\n")
+    put(out, j, b" ")
+}
+
+// Puts the end of a row: the tag letter of an origin, t b d a, and what closes the row.
+fn put_end(out: &mut [u8], at: usize, origin: Origin) -> usize
+    ensures { λ r. ⌜ Wrote (now (out .entry)) (now (out .exit)) at r (endText origin) ⌝ }
+{
+    match origin {
+        Origin::Tatsam => put(out, at, b"t)\n"),
+        Origin::Tadbhav => put(out, at, b"b)\n"),
+        Origin::Deshaj => put(out, at, b"d)\n"),
+        Origin::Aagantuk => put(out, at, b"a)\n"),
+    }
+}
+
+// Puts a row: stem, root, prefix labels, segments and score of a reading, and the tag letter of its root's origin.
+fn put_row(
+    out: &mut [u8],
+    at: usize,
+    word: &[u8],
+    labels: &[u8],
+    starts: &[u16],
+    texts: &[u8],
+    cuts: &[u16],
+    row: Classified,
+) -> usize
+    requires { ⌜ Laid prefixLabels (now labels) (now starts) × Laid affixes (now texts) (now cuts) ⌝ }
+    ensures { λ r. ⌜ Wrote (now (out .entry)) (now (out .exit)) at r (rowText (now (word .entry)) row) × (length (now (word .entry)) ≤ wordLimit → length (rowText (now (word .entry)) row) ≤ rowRoom) ⌝ }
+{
+    let reading = row.reading;
+    let origin = row.origin;
+    let behind = put_reading(out, at, word, labels, starts, texts, cuts, reading);
+    put_end(out, behind, origin)
 }
 
 // Puts the rows of a list, the first n of them.

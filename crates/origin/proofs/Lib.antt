@@ -5,3 +5,4 @@ pub mod Contained
 pub mod Alike
 pub mod Worked
 pub mod Refused
+pub mod Ruled

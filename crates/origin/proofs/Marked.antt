@@ -23,7 +23,7 @@ rest-lent w i =
 
 -- One turn of the scan.
 
-contains-at : (t w : List ℕ) (i : ℕ) → i < length w → contains t (drop i w) ≡ (beginsWith t (drop i w) || contains t (drop (i + 1) w))
+pub contains-at : (t w : List ℕ) (i : ℕ) → i < length w → contains t (drop i w) ≡ (beginsWith t (drop i w) || contains t (drop (i + 1) w))
 contains-at t w i h = rw (add-one, drop-cons w i 0)
 
 pub contains-here : (t w : List ℕ) (i : ℕ) → i < length w → beginsWith t (drop i w) ≡ true → contains t (drop i w) ≡ true

@@ -22,6 +22,9 @@ some f (t ∷ ts) = f t || some f ts
 unfoldable pub containsOne : List (List ℕ) → List ℕ → Bool
 containsOne ts w = some (λ t. contains t w) ts
 
+abbrev pub beginsOne : List (List ℕ) → List ℕ → Bool
+beginsOne ts w = some (λ t. beginsWith t w) ts
+
 unfoldable pub endsInOne : List (List ℕ) → List ℕ → Bool
 endsInOne ts w = some (λ t. endsIn t w) ts
 
@@ -108,10 +111,12 @@ tadbhavEnds = syllables ++ (rightAfter retroflexes signO ++ rightAfter retroflex
 unfoldable pub hasTadbhavMarkers : List ℕ → Bool
 hasTadbhavMarkers w = endsInOne tadbhavEnds w
 
+abbrev pub byEnd : List ℕ → Origin
+byEnd w = pick (hasTadbhavMarkers w) Tadbhav Deshaj
+
 -- the origin that the marks of w show, Deshaj where there are none
 unfoldable pub heuristicOf : List ℕ → Origin
 heuristicOf w =
     pick (hasAagantukMarkers w) Aagantuk
     (pick (hasTatsamMarkers w) Tatsam
-    (pick (hasTadbhavMarkers w) Tadbhav
-    Deshaj))
+    (byEnd w))

@@ -4,6 +4,7 @@ ghost use Rattle.sheet.specs.Replies.{reply, Indexed};
 ghost use Rattle.tables.specs.Rows.{stripSuffixes};
 ghost use Rattle.tables.specs.Tables.{Laid};
 ghost use Rattle.origin.specs.Decisions.{ifUntagged, knownBy, knownRest, knownUnder, knownStem};
+use crate::quick::may_strip;
 use lookup::answers::letters_of;
 use lookup::starts::Start;
 use sheet::letters::Tag;
@@ -103,12 +104,16 @@ fn known_among(sheet: &[u8], starts: &[Start], word: &[u8], texts: &[u8], cuts: 
     Known::NotKnown
 }
 
-// What the sheet knows of a remainder of the word under one of STRIP_SUFFIXES, which are named here and lent to the search.
+// What the sheet knows of a remainder of the word under one of STRIP_SUFFIXES, which are named here and lent to the search, if the word
+// can end in one.
 // The sheet is accepted and `starts` is its list.
 pub(crate) fn known_stem(sheet: &[u8], starts: &[Start], word: &[u8]) -> Known
     requires { ⌜ Indexed (now sheet) (now starts) ⌝ }
     ensures { λ r. ⌜ r ≡ knownStem (reply (now (sheet .entry))) (now (word .entry)) ⌝ }
 {
+    if !may_strip(word) {
+        return Known::NotKnown;
+    }
     let texts = tables::strip_suffixes();
     let cuts = tables::strip_suffix_starts();
     known_among(sheet, starts, word, &texts, &cuts)

@@ -5,6 +5,7 @@ ghost use Rattle.tables.specs.Origins.{originOf};
 ghost use Rattle.origin.specs.Decisions.{byMark, byStem, decided, noEvidence, knownStem, orByKosha, byMarks, decisionOf};
 ghost use Rattle.origin.specs.Marks.{heuristicOf};
 use crate::kosha::Known;
+use crate::quick::may_list;
 use lookup::starts::Start;
 use tables::origins::Origin;
 use tables::origins::OriginFound;
@@ -12,6 +13,7 @@ use tables::origins::OriginFound;
 pub mod entries;
 pub mod kosha;
 pub mod marks;
+mod quick;
 
 // How an origin is known.
 pub enum OriginSource {
@@ -39,10 +41,13 @@ fn no_evidence() -> OriginDecision
     }
 }
 
-// The origin of the word in ORIGIN_TABLE, which is named here and lent to the search.
+// The origin of the word in ORIGIN_TABLE, which is named here and lent to the search, if it can have the word.
 fn listed(word: &[u8]) -> OriginFound
     ensures { λ r. ⌜ r ≡ originOf (now (word .entry)) ⌝ }
 {
+    if !may_list(word) {
+        return OriginFound::Unlisted;
+    }
     let words = tables::origin_words();
     let starts = tables::origin_starts();
     let tags = tables::origin_tags();

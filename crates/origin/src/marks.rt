@@ -1,9 +1,12 @@
 // The marks of a word's origin: texts that it contains, and texts in which it ends.
 ghost use mathlib.Core.Path.{_≡_};
-ghost use Prim.Native.Nat.{_≤_};
+ghost use Prim.Native.Nat.{_≤_, _<_};
 ghost use lib.ListN.{length, drop};
 ghost use Rattle.tables.specs.Tables.{joined, places, Cuts};
-ghost use Rattle.origin.specs.Marks.{contains, containsOne, endsInOne, cut, aagantukMarks, hasAagantukMarkers, tatsamMarks, hasTatsamMarkers, tadbhavEnds, hasTadbhavMarkers, heuristicOf};
+ghost use Rattle.origin.specs.Marks.{contains, containsOne, beginsOne, endsInOne, cut, aagantukMarks, hasAagantukMarkers, tatsamMarks, hasTatsamMarkers, tadbhavEnds, hasTadbhavMarkers, byEnd, heuristicOf};
+ghost use Rattle.origin.specs.Quick.{Opens};
+use crate::quick::may_mark;
+use crate::quick::may_open;
 use tables::origins::Origin;
 
 // Marks of Aagantuk words, U+0958 to U+095F.
@@ -139,17 +142,43 @@ fn contains_from(word: &[u8], from: usize, text: &[u8]) -> bool
     text.len() == 0
 }
 
-// Whether the word contains one of the texts that the starts cut.
-fn contains_one(word: &[u8], texts: &[u8], starts: &[u16]) -> bool
+// Whether the word begins with one of the texts that the starts cut.
+fn begins_one(word: &[u8], texts: &[u8], starts: &[u16]) -> bool
     requires { ⌜ Cuts (now texts) (now starts) ⌝ }
-    ensures { λ r. ⌜ r ≡ containsOne (cut (now (texts .entry)) (now (starts .entry))) (now (word .entry)) ⌝ }
+    ensures { λ r. ⌜ r ≡ beginsOne (cut (now (texts .entry)) (now (starts .entry))) (now (word .entry)) ⌝ }
 {
     let mut k: usize = 0;
     while k + 1 < starts.len() {
-        if contains_from(word, 0, tables::row(texts, starts, k)) {
+        if runs::begins_with(word, tables::row(texts, starts, k)) {
             return true;
         }
         k += 1;
+    }
+    false
+}
+
+// The same of the word from byte i on; all of the texts open as marks do, so that few places are looked at.
+fn opens_one(word: &[u8], i: usize, texts: &[u8], starts: &[u16]) -> bool
+    requires { ⌜ (i < length (now word)) × Cuts (now texts) (now starts) × Opens (cut (now texts) (now starts)) ⌝ }
+    ensures { λ r. ⌜ r ≡ beginsOne (cut (now (texts .entry)) (now (starts .entry))) (drop i (now (word .entry))) ⌝ }
+{
+    if !may_open(word, i) {
+        return false;
+    }
+    begins_one(&word[i..], texts, starts)
+}
+
+// Whether the word contains one of the texts that the starts cut, which open as marks do.
+fn contains_one(word: &[u8], texts: &[u8], starts: &[u16]) -> bool
+    requires { ⌜ Cuts (now texts) (now starts) × Opens (cut (now texts) (now starts)) ⌝ }
+    ensures { λ r. ⌜ r ≡ containsOne (cut (now (texts .entry)) (now (starts .entry))) (now (word .entry)) ⌝ }
+{
+    let mut i: usize = 0;
+    while i < word.len() {
+        if opens_one(word, i, texts, starts) {
+            return true;
+        }
+        i += 1;
     }
     false
 }
@@ -200,18 +229,29 @@ fn has_tadbhav_markers(word: &[u8]) -> bool
     ends_in_one(word, &texts, &starts)
 }
 
-// The origin that the word's marks show: Aagantuk before Tatsam before Tadbhav, and Deshaj where there are none.
+// The origin that the word's end shows: Tadbhav, or Deshaj where there is no mark.
+fn by_end(word: &[u8]) -> Origin
+    ensures { λ r. ⌜ r ≡ byEnd (now (word .entry)) ⌝ }
+{
+    if has_tadbhav_markers(word) {
+        return Origin::Tadbhav;
+    }
+    Origin::Deshaj
+}
+
+// The origin that the word's marks show: Aagantuk before Tatsam before Tadbhav, and Deshaj where there are none. Most words have no
+// character that a mark of the first two begins with.
 pub fn classify_heuristic(word: &[u8]) -> Origin
     ensures { λ r. ⌜ r ≡ heuristicOf (now (word .entry)) ⌝ }
 {
+    if !may_mark(word) {
+        return by_end(word);
+    }
     if has_aagantuk_markers(word) {
         return Origin::Aagantuk;
     }
     if has_tatsam_markers(word) {
         return Origin::Tatsam;
     }
-    if has_tadbhav_markers(word) {
-        return Origin::Tadbhav;
-    }
-    Origin::Deshaj
+    by_end(word)
 }

@@ -10,7 +10,7 @@ use lib.ListN.{length}
 use Rattle.sheet.specs.Inputs.{inputsOf}
 use Rattle.sheet.specs.declared.inputs.Inputs.{Inputs}
 use Rattle.sheet.specs.declared.inputs.Inputs.the-variants as inputs
-use Rattle.ranking.specs.declared.Reading.{Reading}
+use Rattle.ranking.specs.declared.Classified.{Classified}
 use Rattle.refusals.specs.declared.Refusal.{Refusal}
 use Rattle.analysis.specs.Answers.{saidOf, saidNumbers, rowsGiven, isSome, hasBy, hasOf, hasNumbers}
 use Rattle.analysis.specs.declared.entry.Said.{Said}
@@ -44,12 +44,12 @@ pub has-exactly : (w s : List ℕ) → (hasOf w s ≡ has.Given true) ↔ ((said
 unfolding hasOf
 has-exactly w s = (there (saidOf w s) (rowsGiven w s), (λ h. back (saidOf w s) (rowsGiven w s) (h .0) (h .1)))
   where
-    there : (x : Said) (rs : List Reading) → hasBy x (isSome rs) ≡ has.Given true → (x ≡ said.Listed) × (0 < length rs)
+    there : (x : Said) (rs : List Classified) → hasBy x (isSome rs) ≡ has.Given true → (x ≡ said.Listed) × (0 < length rs)
     there said.Listed [] e = let z : _≡_ {A = ℕ} 0 1 = ap hasYes e in absurd (omega arith)
     there said.Listed (r ∷ rs) e = (refl, omega arith)
     there (said.Refused r) rs e = let z : _≡_ {A = ℕ} 0 1 = ap hasYes e in absurd (omega arith)
 
-    back : (x : Said) (rs : List Reading) → x ≡ said.Listed → 0 < length rs → hasBy x (isSome rs) ≡ has.Given true
+    back : (x : Said) (rs : List Classified) → x ≡ said.Listed → 0 < length rs → hasBy x (isSome rs) ≡ has.Given true
     back x [] e h = absurd (omega arith)
     back x (r ∷ rs) e h = ap (λ (y : Said). hasBy y true) e
 

@@ -4,3 +4,4 @@ pub mod Limits
 pub mod Owned
 pub mod Rejoined
 pub mod Visited
+pub mod Classified

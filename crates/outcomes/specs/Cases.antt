@@ -1,12 +1,15 @@
--- The cases of document 01 ("Readings worked by hand") that are marked *, and those of document 02 (b), one line each: what is asked,
--- and its outcome.
--- Assumes nothing.
+-- The cases of document 01 ("Readings worked by hand") that are marked *, and those of document 02 (b) and (h), one line each: what is
+-- asked, and its outcome. Assumes nothing.
 use Prim.Native.Nat.{ℕ}
 use mathlib.Core.Bool.{true, false}
 use mathlib.Core.List.{List, [], _∷_, _++_}
 use Rattle.sheet.specs.Forms.{written}
+use Rattle.tables.specs.declared.origins.Origin.the-variants.{Tatsam, Tadbhav}
+use Rattle.origin.specs.Decisions.{byMark, byStem, byWord, sure, decided, noEvidence}
+use Rattle.origin.specs.declared.OriginDecision.{OriginDecision}
+use Rattle.origin.specs.declared.OriginSource.the-variants.{Override, Kosha, Heuristic}
 use Rattle.ranking.specs.declared.AffixKind.the-variants.{CaseMarker, Particle}
-use Rattle.outcomes.specs.Words.{ghar, gharle, le, nihshulk, shulk, nir, nis, amanav, manav, a, asaphal, saphal, khairaheko, nakhairaheko, khai, nakhai, khanu, rahanu, gariraheko, gari, garnu, garanu, listing, gharkota, gharko, ta, ko, gharl, gharat, gharatire, tira, re, sharedListing, twiceListing}
+use Rattle.outcomes.specs.Words.{ghar, gharle, le, nihshulk, shulk, nir, nis, amanav, manav, a, asaphal, saphal, khairaheko, nakhairaheko, khai, nakhai, khanu, rahanu, gariraheko, gari, garnu, garanu, listing, gharkota, gharko, ta, ko, gharl, gharat, gharatire, tira, re, sharedListing, twiceListing, kriti, kritile, tableListing}
 use Rattle.outcomes.specs.Outcomes.{Question, prints, readings, progressive, decompose, Suffix, Row, Outcome, text, list, form, noForm, parts}
 
 -- a line of a sheet, with its 0A
@@ -30,9 +33,21 @@ verb name = lineOf 0x77 name (0x68 ∷ 0x76 ∷ [])
 abbrev pub link : List ℕ → List ℕ → List ℕ
 link name infinitive = lineOf 0x6C name infinitive
 
--- a row of the list
+-- a headword with the tag t
+abbrev pub tagged : List ℕ → List ℕ
+tagged name = lineOf 0x77 name (0x68 ∷ 0x74 ∷ [])
+
+-- a row of the list, of whose root this is decided
+abbrev pub rowBy : OriginDecision → List ℕ → List ℕ → List (List ℕ) → List Suffix → ℕ → Row
+rowBy decision stem root prefixes suffixes score =
+    record { stem = stem; root = root; prefixes = prefixes; suffixes = suffixes; score = score; decision = decision }
+
+-- one of whose root's origin nothing is known: Deshaj
 abbrev pub row : List ℕ → List ℕ → List (List ℕ) → List Suffix → ℕ → Row
-row stem root prefixes suffixes score = record { stem = stem; root = root; prefixes = prefixes; suffixes = suffixes; score = score }
+row = rowBy noEvidence
+
+abbrev pub caseKo : Suffix
+caseKo = record { label = ko; kind = CaseMarker; isShared = false }
 
 abbrev pub caseLe : Suffix
 caseLe = record { label = le; kind = CaseMarker; isShared = false }
@@ -62,7 +77,7 @@ cases =
     case (readings nihshulk (head shulk)) (list (row nihshulk shulk (nir ∷ []) [] 188 ∷ row nihshulk shulk (nis ∷ []) [] 188 ∷ [])) ∷
     case (readings amanav (word manav)) (list (row amanav manav (a ∷ []) [] 135 ∷ [])) ∷
     case (readings asaphal (word saphal)) (list []) ∷
-    case (readings khairaheko (verb khanu ++ verb rahanu)) (list (row khairaheko khairaheko [] [] 8 ∷ [])) ∷
+    case (readings khairaheko (verb khanu ++ verb rahanu)) (list (rowBy (decided Tadbhav Heuristic byMark) khairaheko khairaheko [] [] 8 ∷ [])) ∷
     case (progressive khairaheko (verb khanu ++ verb rahanu)) (form khai false khanu) ∷
     case (progressive nakhairaheko (verb khanu ++ verb rahanu)) (form nakhai true khanu) ∷
     case (progressive gariraheko (link gari garnu ++ verb garanu ++ verb rahanu)) noForm ∷
@@ -72,4 +87,8 @@ cases =
     case (readings gharle (both ghar ++ word gharl)) (list (row ghar ghar [] (caseLe ∷ []) 279 ∷ row gharl gharl [] (sharedLe ∷ []) 129 ∷ [])) ∷
     case (prints (gharatire ++ 0x0A ∷ word gharat)) (text twiceListing) ∷
     case (readings gharatire (word gharat)) (list (row gharat gharat [] (sharedTira ∷ sharedRe ∷ []) 146 ∷ [])) ∷
+    case (readings gharko (tagged ghar ++ word gharko))
+    (list (rowBy (decided Tatsam Kosha byWord) ghar ghar [] (caseKo ∷ []) 239 ∷ rowBy (decided Tatsam Kosha byStem) gharko gharko [] [] 104 ∷ [])) ∷
+    case (readings kritile (word kriti)) (list (rowBy (decided Tatsam Override sure) kriti kriti [] (caseLe ∷ []) 131 ∷ [])) ∷
+    case (prints (kritile ++ 0x0A ∷ word kriti)) (text tableListing) ∷
     []

@@ -10,7 +10,9 @@ use Rattle.ranking.specs.Parts.{part}
 use Rattle.ranking.specs.Rank.{rootText}
 use Rattle.ranking.specs.declared.AffixKind.{AffixKind}
 use Rattle.ranking.specs.declared.Segment.{Segment}
-use Rattle.ranking.specs.declared.Reading.{Reading}
+use Rattle.ranking.specs.declared.Classified.{Classified}
+use Rattle.origin.specs.Decisions.{decided}
+use Rattle.origin.specs.declared.OriginDecision.{OriginDecision}
 use Rattle.progressive.specs.declared.find.Progressive.{Progressive}
 use Rattle.progressive.specs.declared.entry.Answer.{Answer}
 use Rattle.progressive.specs.declared.entry.Answer.the-variants as answers
@@ -38,13 +40,14 @@ pub record Suffix : Type 0 where
   pub kind : AffixKind
   pub isShared : Bool
 
--- a row of the list: stem, root, prefix labels, label, kind and mark of each suffix, score
+-- a row of the list: stem, root, prefix labels, label, kind and mark of each suffix, score, and the root's origin, source and confidence
 pub record Row : Type 0 where
   pub stem : List ℕ
   pub root : List ℕ
   pub prefixes : List (List ℕ)
   pub suffixes : List Suffix
   pub score : ℕ
+  pub decision : OriginDecision
 
 -- an outcome: the text printed; the rows of the list; a progressive form, by its main form, whether it is negative, and its lemma; no progressive
 -- form; a decomposition, by its root, prefix labels and suffix labels; or a refusal by its numbers
@@ -62,18 +65,19 @@ suffixOf s = record { label = getD affixes (s .label) []; kind = s .kind; isShar
 abbrev pub labelOf : ℕ → List ℕ
 labelOf row = getD prefixLabels row []
 
--- a reading of w as a row
-abbrev pub rowOf : List ℕ → Reading → Row
+-- a reading of w, with its root's origin, as a row
+abbrev pub rowOf : List ℕ → Classified → Row
 rowOf w r = record {
-  stem = part w 0 (r .stem);
-  root = rootText w r;
-  prefixes = map labelOf (take (r .«prefix_count») (r .prefixes));
-  suffixes = map suffixOf (take (r .«suffix_count») (r .segments));
-  score = r .score;
+  stem = part w 0 (r .reading .stem);
+  root = rootText w (r .reading);
+  prefixes = map labelOf (take (r .reading .«prefix_count») (r .reading .prefixes));
+  suffixes = map suffixOf (take (r .reading .«suffix_count») (r .reading .segments));
+  score = r .reading .score;
+  decision = decided (r .origin) (r .source) (r .confidence);
 }
 
 -- what the core call says and gives of the word w
-abbrev pub listOf : List ℕ → Said → List Reading → Outcome
+abbrev pub listOf : List ℕ → Said → List Classified → Outcome
 listOf w Listed rs = list (map (rowOf w) rs)
 listOf w (Refused r) rs = refused (saidNumbers (Refused r))
 

@@ -20,6 +20,7 @@ pub mod Own
 pub mod Shape
 pub mod Agreed
 pub mod Alike
+pub mod Origins
 pub mod Cuts
 pub mod Joined
 pub mod Keys

@@ -18,7 +18,11 @@ use Rattle.ranking.specs.declared.AffixKind.{AffixKind}
 use Rattle.ranking.specs.declared.AffixKind.the-variants.{Particle, CaseMarker, PluralMarker, Postposition, ComparisonMarker}
 use Rattle.ranking.specs.declared.Segment.{Segment}
 use Rattle.ranking.specs.Stored.{noSegment}
+use Rattle.ranking.specs.Rank.{rootText}
+use Rattle.ranking.specs.Lists.{withOrigin}
 use Rattle.ranking.specs.declared.Reading.{Reading}
+use Rattle.ranking.specs.declared.Classified.{Classified}
+use Rattle.origin.specs.Decisions.{decisionOf}
 use Rattle.paths.specs.Support.{scoreOf}
 use Rattle.paths.specs.Chains.{mostStrips, mostPrefixes, Strip, textOf, Route, PathOf}
 use Rattle.paths.specs.declared.Chain.{Chain}
@@ -85,3 +89,11 @@ built ask surface stem at root prefixes chain = record {
 unfoldable pub readingOf : Ask → List ℕ → Route → Reading
 readingOf ask w p =
     built ask (chars w) (length (p .stem)) (length (p .stem) - length (p .root)) (p .root) (prefixesOf (p .prefixRows)) (chainOf ask (p .strips))
+
+-- the row of a path, as it is handed out: its record, with what is decided of its root (document 02 (h))
+unfoldable pub rowOf : Ask → List ℕ → Route → Classified
+rowOf ask w p = withOrigin (readingOf ask w p) (decisionOf ask (p .root))
+
+-- the same from a record, whose root is a part of the word
+unfoldable pub classified : Ask → List ℕ → Reading → Classified
+classified ask w r = withOrigin r (decisionOf ask (rootText w r))

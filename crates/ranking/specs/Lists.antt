@@ -7,15 +7,20 @@ use lib.Dec.{ltb}
 use Rattle.runs.specs.Runs.{pick}
 use Rattle.ranking.specs.Rank.{aheadOf}
 use Rattle.ranking.specs.declared.Reading.{Reading}
+use Rattle.ranking.specs.declared.Classified.{Classified}
 use Rattle.ranking.specs.declared.Listing.{Listing}
-use Rattle.ranking.specs.declared.Found.{Found}
+use Rattle.origin.specs.declared.OriginDecision.{OriginDecision}
 
 -- the most readings that a list holds
 abbrev pub listLimit : ℕ
 listLimit = 64
 
+-- a reading with what is decided of its root (document 02 (h)): origin, source and confidence
+abbrev pub withOrigin : Reading → OriginDecision → Classified
+withOrigin r d = record { reading = r; origin = d .origin; source = d .source; confidence = d .confidence }
+
 -- the rows of a list: as many as it counts
-abbrev pub rowsOf : Listing → List Reading
+abbrev pub rowsOf : Listing → List Classified
 rowsOf l = take (l .count) (l .rows)
 
 -- r put in before the first row that it is ahead of, so behind its equals that came before it
@@ -37,7 +42,3 @@ plus w (rows xs) r = pick (ltb (length xs) listLimit) (rows (ranked w r xs)) ove
 unfoldable pub plusAll : List ℕ → Rows → List Reading → Rows
 plusAll w a [] = a
 plusAll w a (r ∷ rs) = plusAll w (plus w a r) rs
-
--- what the code has collected
-abbrev pub foundOf : Found → Rows
-foundOf f = pick (f .over) over (rows (rowsOf (f .list)))

@@ -1,17 +1,14 @@
 // Readings kept in a lent buffer, row after row, in rank order: what a walk has collected. A number counts the rows; one past the limit
 // says that there are too many.
-use crate::Found;
 use crate::LIMIT;
-use crate::Listing;
 use crate::Reading;
 use crate::ahead;
-use crate::nothing;
 use crate::rows::row_at;
 use crate::rows::set_row;
 ghost use mathlib.Core.Path.{_≡_};
 ghost use Prim.Native.Nat.{_+_, _≤_, _<_};
 ghost use lib.ListN.{length, take};
-ghost use Rattle.ranking.specs.Lists.{listLimit, rowsOf, plus, foundOf};
+ghost use Rattle.ranking.specs.Lists.{listLimit, plus};
 ghost use Rattle.ranking.specs.Places.{placeIn, putIn};
 ghost use Rattle.ranking.specs.Kept.{rowsIn, keptBytes, keptOf, HasRoom};
 
@@ -59,37 +56,4 @@ pub fn store(word: &[u8], r: Reading, n: usize, out: &mut [u8]) -> usize
     let at = place(word, r, n, out);
     insert_at(r, at, n, out);
     n + 1
-}
-
-// A list with the first n rows of the buffer. Free: the rows past the count.
-fn filled(blank: Listing, n: usize, out: &[u8]) -> Listing
-    requires { ⌜ (keptBytes ≤ length (now out)) × (n ≤ listLimit) ⌝ }
-    ensures { λ l. ⌜ (rowsOf l ≡ take n (rowsIn (now (out .entry)))) × (l .count ≡ n) ⌝ }
-{
-    let mut list = blank;
-    let mut i: usize = 0;
-    while i < n {
-        let r = row_at(out, i);
-        list.rows[i] = r;
-        i += 1;
-    }
-    list.count = n;
-    list
-}
-
-// What has been collected, by value. Free: the rows past the count.
-pub fn found(n: usize, out: &[u8]) -> Found
-    requires { ⌜ HasRoom (now out) n ⌝ }
-    ensures { λ f. ⌜ (foundOf f ≡ keptOf (now (out .entry)) n) × (f .list .count ≡ length (rowsOf (f .list))) ⌝ }
-{
-    let none = nothing();
-    let blank = none.list;
-    if LIMIT < n {
-        return Found {
-            list: blank,
-            over: true,
-        };
-    }
-    let list = filled(blank, n, out);
-    Found { list, over: false }
 }

@@ -2,8 +2,11 @@
 pub mod kept;
 pub mod rows;
 
+use origin::OriginDecision;
+use origin::OriginSource;
 use runs::Order;
 use runs::compare;
+use tables::origins::Origin;
 ghost use mathlib.Core.Path.{_≡_};
 ghost use mathlib.Core.List.{List, [], _∷_};
 ghost use Prim.Native.Nat.{_+_, _≤_, _<_};
@@ -11,7 +14,7 @@ ghost use lib.ListN.{length, take, drop};
 ghost use Rattle.ranking.specs.Parts.{part};
 ghost use Rattle.runs.specs.Runs.{cmp};
 ghost use Rattle.ranking.specs.Rank.{isLess, stemText, rootText, aheadOf};
-ghost use Rattle.ranking.specs.Lists.{rowsOf, rows, foundOf};
+ghost use Rattle.ranking.specs.Lists.{listLimit, rowsOf, withOrigin};
 ghost use Rattle.ranking.specs.Stored.{noSegment};
 
 // The most readings that a list holds.
@@ -46,16 +49,18 @@ pub struct Reading {
     pub suffix_count: u8,
 }
 
-// A list of readings: the first `count` rows.
-pub struct Listing {
-    pub rows: [Reading; LIMIT],
-    pub count: usize,
+// A reading as it is handed out: with its root's origin, how that is known, and how surely. Here too no gap lies between the fields.
+pub struct Classified {
+    pub reading: Reading,
+    pub origin: Origin,
+    pub source: OriginSource,
+    pub confidence: f32,
 }
 
-// What has been collected: the list, or that there are more than 64.
-pub struct Found {
-    pub list: Listing,
-    pub over: bool,
+// A list of readings: the first `count` rows.
+pub struct Listing {
+    pub rows: [Classified; LIMIT],
+    pub count: usize,
 }
 
 // The bytes of the word from `from` to `to`, nothing where that is no place inside the word.
@@ -148,12 +153,27 @@ pub fn blank() -> Segment
     }
 }
 
-// Nothing collected. Free: the rows, all past the count.
-pub fn nothing() -> Found
-    ensures { λ f. ⌜ (foundOf f ≡ rows []) × (rowsOf (f .list) ≡ []) × (f .list .count ≡ 0) ⌝ }
+// A reading with what is decided of its root.
+pub fn with_origin(reading: Reading, decision: OriginDecision) -> Classified
+    ensures { λ r. ⌜ r ≡ withOrigin reading decision ⌝ }
+{
+    let origin = decision.origin;
+    let source = decision.source;
+    let confidence = decision.confidence;
+    Classified {
+        reading,
+        origin,
+        source,
+        confidence,
+    }
+}
+
+// An empty list. Free: the rows, all past the count.
+pub fn nothing() -> Listing
+    ensures { λ l. ⌜ (rowsOf l ≡ []) × (l .count ≡ 0) × (length (l .rows) ≡ listLimit) ⌝ }
 {
     let s = blank();
-    let r = Reading {
+    let reading = Reading {
         stem: 0,
         root: 0,
         score: 0,
@@ -162,9 +182,14 @@ pub fn nothing() -> Found
         prefix_count: 0,
         suffix_count: 0,
     };
-    let list = Listing {
+    let r = Classified {
+        reading,
+        origin: Origin::Tatsam,
+        source: OriginSource::Override,
+        confidence: 0.0,
+    };
+    Listing {
         rows: [r; LIMIT],
         count: 0,
-    };
-    Found { list, over: false }
+    }
 }

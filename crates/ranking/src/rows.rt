@@ -167,7 +167,7 @@ pub fn get_reading(row: &[u8]) -> Reading
 }
 
 // Row i of the buffer.
-pub(crate) fn row_at(out: &[u8], i: usize) -> Reading
+pub fn row_at(out: &[u8], i: usize) -> Reading
     requires { ⌜ (keptBytes ≤ length (now out)) × (i < listLimit) ⌝ }
     ensures { λ r. ⌜ r ≡ getD (rowsIn (now (out .entry))) i noReading ⌝ }
 {

@@ -2,7 +2,7 @@
 
 use crate::marks::marks;
 use acceptance::{Refusal, check_count};
-use shabda::{AffixAnalysis, AffixKind, AffixSegment, OriginSource, RootCandidate};
+use shabda::{AffixAnalysis, AffixKind, AffixSegment, OriginDecision, OriginSource, RootCandidate};
 use varnavinyas_types::Origin;
 
 pub fn refused(refusal: Refusal) -> String {
@@ -19,6 +19,8 @@ pub fn all(word: &str) -> String {
 
 /// The answers one by one. A field is the text of its line or lines, without the last 0A.
 pub struct Each {
+    /// The listing, each row with the source and the confidence of its root's origin behind it.
+    pub readings: String,
     pub listing: String,
     pub best_analysis: String,
     pub has_analysis: String,
@@ -43,6 +45,7 @@ pub fn each(word: &str) -> Each {
     };
     let without_end = |text: String| text.strip_suffix('\n').map(str::to_string).expect("a line ends in 0A");
     Each {
+        readings: without_end(list_by(&readings, told)),
         listing: without_end(list(&readings)),
         best_analysis: without_end(best_analysis),
         has_analysis: without_end(has_analysis),
@@ -59,7 +62,7 @@ pub fn each(word: &str) -> Each {
 
 /// What `each` says of a word whose best reading is this one.
 pub fn best_reading(reading: Option<&AffixAnalysis>) -> String {
-    format!("best_analysis {}\n", reading.map_or("none".to_string(), row))
+    format!("best_analysis {}\n", reading.map_or("none".to_string(), told))
 }
 
 /// What `each` says of a word whose best candidate is this one.
@@ -73,6 +76,10 @@ pub fn listing(word: &str) -> String {
 }
 
 fn list(readings: &[AffixAnalysis]) -> String {
+    list_by(readings, row)
+}
+
+fn list_by(readings: &[AffixAnalysis], row: fn(&AffixAnalysis) -> String) -> String {
     if let Err(refusal) = check_count(readings.len()) {
         return refused(refusal);
     }
@@ -88,13 +95,20 @@ fn row(reading: &AffixAnalysis) -> String {
     let marks = marks(reading);
     let segments: Vec<String> = reading.suffix_segments.iter().zip(marks).map(segment).collect();
     format!(
-        "(r {} {} ({}) ({}) {})",
+        "(r {} {} ({}) ({}) {} {})",
         reading.stem,
         reading.root,
         reading.prefixes.join(" "),
         segments.join(" "),
-        reading.score
+        reading.score,
+        tag(shabda::classify_with_provenance(&reading.root).origin)
     )
+}
+
+/// A row, and behind it what the source says of the root's origin: how it is known, and how surely.
+fn told(reading: &AffixAnalysis) -> String {
+    let decision = shabda::classify_with_provenance(&reading.root);
+    format!("{} {} {:08X}", row(reading), source(&decision), decision.confidence.to_bits())
 }
 
 fn segment((segment, shared): (&AffixSegment, bool)) -> String {
@@ -183,13 +197,16 @@ fn has_progressive(word: &str) -> String {
 
 fn origin(word: &str) -> String {
     let decision = shabda::classify_with_provenance(word);
-    let source = match decision.source {
+    format!("origin {} {} {:08X}\n", tag(decision.origin), source(&decision), decision.confidence.to_bits())
+}
+
+fn source(decision: &OriginDecision) -> &'static str {
+    match decision.source {
         OriginSource::Override => "override",
         OriginSource::Kosha => "kosha",
         OriginSource::Heuristic => "heuristic",
         OriginSource::Unknown => "unknown",
-    };
-    format!("origin {} {source} {:08X}\n", tag(decision.origin), decision.confidence.to_bits())
+    }
 }
 
 /// A count and the labels, each after a space.

@@ -14,7 +14,7 @@ fn the_main_form_is_the_linked_form() {
 #[test]
 fn only_readings_leave_a_progressive_form_whole() {
     let sheet = ["(w खाइरहे (wht))", VERBS[0], VERBS[1]];
-    assert_eq!(readings("खाइरहेको", &sheet), "(list 1)\n(r खाइरहेको खाइरहेको () () 8)\n");
+    assert_eq!(readings("खाइरहेको", &sheet), "(list 1)\n(r खाइरहेको खाइरहेको () () 8 t)\n");
     assert_eq!(line("खाइरहेको", &sheet, "decomposition"), "decomposition खाइरहे t 0 1 को");
     assert_eq!(line("खाइरहेको", &sheet, "candidate "), "candidate खाइरहे wh t 283 0 1 को");
     assert_eq!(line("खाइरहेको", &sheet, "origin"), "origin t kosha 3F666666");
@@ -56,9 +56,9 @@ fn a_link_decides_its_own_search_alone() {
 
 #[test]
 fn sixty_is_given_once() {
-    assert_eq!(readings("घर", &["(w घरको (w))"]), "(list 1)\n(r घर घर () () 62)\n");
-    assert_eq!(readings("घर", &["(w घरको (w))", "(w घरले (h))"]), "(list 1)\n(r घर घर () () 62)\n");
-    assert_eq!(readings("घर", &["(w घरले (h))"]), "(list 1)\n(r घर घर () () 62)\n");
+    assert_eq!(readings("घर", &["(w घरको (w))"]), "(list 1)\n(r घर घर () () 62 d)\n");
+    assert_eq!(readings("घर", &["(w घरको (w))", "(w घरले (h))"]), "(list 1)\n(r घर घर () () 62 d)\n");
+    assert_eq!(readings("घर", &["(w घरले (h))"]), "(list 1)\n(r घर घर () () 62 d)\n");
 }
 
 #[test]
@@ -88,7 +88,7 @@ fn e_on_another_name_is_accepted_and_does_nothing() {
 fn pronouns_lose_case_markers_in_readings() {
     assert_eq!(
         readings("तिनीले", &["(w तिनी (whp))", "(w तिनीले (hp))"]),
-        "(list 2)\n(r तिनी तिनी () ((ले case)) 341)\n(r तिनीले तिनीले () () 156)\n"
+        "(list 2)\n(r तिनी तिनी () ((ले case)) 341 d)\n(r तिनीले तिनीले () () 156 d)\n"
     );
 }
 

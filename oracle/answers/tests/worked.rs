@@ -8,24 +8,24 @@ use common::*;
 fn shared_letters() {
     assert_eq!(
         readings("घरले", &["(w घर (wh))", "(w घरल (w))"]),
-        "(list 2)\n(r घर घर () ((ले case)) 279)\n(r घरल घरल () ((ले case shared)) 129)\n"
+        "(list 2)\n(r घर घर () ((ले case)) 279 d)\n(r घरल घरल () ((ले case shared)) 129 d)\n"
     );
     assert_eq!(
         readings("घरतिरे", &["(w घरत (w))"]),
-        "(list 1)\n(r घरत घरत () ((तिर case shared) (रे particle shared)) 146)\n"
+        "(list 1)\n(r घरत घरत () ((तिर case shared) (रे particle shared)) 146 d)\n"
     );
 }
 
 #[test]
 fn the_listing() {
-    assert_eq!(readings("घरले", &["(w घर (wh))"]), "(list 1)\n(r घर घर () ((ले case)) 279)\n");
+    assert_eq!(readings("घरले", &["(w घर (wh))"]), "(list 1)\n(r घर घर () ((ले case)) 279 d)\n");
 }
 
 #[test]
 fn with_the_word_itself_known() {
     assert_eq!(
         readings("घरले", &["(w घर (wh))", "(w घरले (w))"]),
-        "(list 2)\n(r घर घर () ((ले case)) 339)\n(r घरले घरले () () 104)\n"
+        "(list 2)\n(r घर घर () ((ले case)) 339 d)\n(r घरले घरले () () 104 d)\n"
     );
 }
 
@@ -33,20 +33,20 @@ fn with_the_word_itself_known() {
 fn two_rows_of_one_prefix() {
     assert_eq!(
         readings("निःशुल्क", &["(w शुल्क (h))"]),
-        "(list 2)\n(r निःशुल्क शुल्क (निर्) () 188)\n(r निःशुल्क शुल्क (निस्) () 188)\n"
+        "(list 2)\n(r निःशुल्क शुल्क (निर्) () 188 d)\n(r निःशुल्क शुल्क (निस्) () 188 d)\n"
     );
 }
 
 #[test]
 fn what_a_short_prefix_leaves() {
-    assert_eq!(readings("अमानव", &["(w मानव (w))"]), "(list 1)\n(r अमानव मानव (अ) () 135)\n");
+    assert_eq!(readings("अमानव", &["(w मानव (w))"]), "(list 1)\n(r अमानव मानव (अ) () 135 d)\n");
     assert_eq!(readings("असफल", &["(w सफल (w))"]), "(list 0)\n");
 }
 
 #[test]
 fn progressive_forms() {
     let verbs = ["(w खानु (hv))", "(w रहनु (hv))"];
-    assert_eq!(readings("खाइरहेको", &verbs), "(list 1)\n(r खाइरहेको खाइरहेको () () 8)\n");
+    assert_eq!(readings("खाइरहेको", &verbs), "(list 1)\n(r खाइरहेको खाइरहेको () () 8 b)\n");
     assert_eq!(line("खाइरहेको", &verbs, "progressive"), "progressive खाइ खानु रहेको रहनु affirmative");
     assert_eq!(line("नखाइरहेको", &verbs, "progressive"), "progressive नखाइ खानु रहेको रहनु negative");
 }
@@ -95,7 +95,7 @@ fn seventy_seven_readings_are_refused() {
 fn word_of_192_and_193_bytes() {
     let word = "घ".repeat(64);
     assert_eq!(word.len(), 192);
-    assert_eq!(readings(&word, &[&format!("(w {word} (w))")]), format!("(list 1)\n(r {word} {word} () () 164)\n"));
+    assert_eq!(readings(&word, &[&format!("(w {word} (w))")]), format!("(list 1)\n(r {word} {word} () () 164 d)\n"));
     assert_eq!(readings(&format!("{word}a"), &[]), "(refused 1)\n");
 }
 

@@ -15,7 +15,7 @@ fn asked(word: &[u8], sheet: &[u8]) -> Answers {
     [
         said(yunthirel::check_word(word), |()| texts::ACCEPTED.to_string()),
         said(yunthirel::check_sheet(sheet), |()| texts::ACCEPTED.to_string()),
-        said(yunthirel::analyze_affixes(word, sheet), |list| texts::listing(&list)),
+        said(yunthirel::analyze_affixes(word, sheet), |list| texts::readings(&list)),
         listing(word, sheet),
         said(yunthirel::best_analysis(word, sheet), |best| texts::best_analysis(best.as_ref())),
         said(yunthirel::has_supported_analysis(word, sheet), |yes| texts::yes_or_no("has_analysis", yes)),

@@ -127,7 +127,7 @@ fn readings(functions: &Functions, word: &[u8], sheet: &[u8]) -> [String; 2] {
         Reading::of_row(word, row).filter(joins).filter(|_| are_forms(&row[6..6 + prefixes], &word[..root]))
     };
     match rows(ask, READINGS_ROOM, of_row) {
-        Ok(list) => [texts::listing(&list), texts::best_analysis(list.first())],
+        Ok(list) => [texts::readings(&list), texts::best_analysis(list.first())],
         Err(text) => [text.clone(), text],
     }
 }

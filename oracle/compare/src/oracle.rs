@@ -14,6 +14,7 @@ pub fn answers(case: &Case) -> Answers {
     match (word, forms) {
         (Ok(word), Ok(forms)) => {
             let Each {
+                readings,
                 listing,
                 best_analysis,
                 has_analysis,
@@ -26,8 +27,6 @@ pub fn answers(case: &Case) -> Answers {
                 origin,
                 classify,
             } = answers::each(word, &forms);
-            // Rows and text are the same list.
-            let readings = listing.clone();
             [
                 check_word,
                 check_sheet,

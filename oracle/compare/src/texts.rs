@@ -26,7 +26,8 @@ pub fn visits(number: usize) -> String {
     format!("visits {number}")
 }
 
-pub fn listing(readings: &[Reading]) -> String {
+/// The rows as in a listing, each with the source and the confidence of its root's origin behind it.
+pub fn readings(readings: &[Reading]) -> String {
     let mut text = format!("(list {})", readings.len());
     for reading in readings {
         text.push('\n');
@@ -42,12 +43,15 @@ fn row(reading: &Reading) -> String {
     };
     let segments: Vec<String> = reading.suffix_segments.iter().map(segment).collect();
     format!(
-        "(r {} {} ({}) ({}) {})",
+        "(r {} {} ({}) ({}) {} {}) {} {:08X}",
         reading.stem,
         reading.root,
         reading.prefixes.join(" "),
         segments.join(" "),
-        reading.score
+        reading.score,
+        reading.origin.letter(),
+        reading.source.as_str(),
+        reading.confidence.to_bits()
     )
 }
 

@@ -523,6 +523,101 @@ fn a_wrong_score() {
     }
 }
 
+/// Sets source and confidence of a row where they are these.
+fn sure(row: &mut [u8; raw::READING_ROW], from: (u8, f32), to: (u8, f32)) {
+    if row[23] == from.0 && row[24..] == from.1.to_le_bytes() {
+        row[23] = to.0;
+        row[24..].copy_from_slice(&to.1.to_le_bytes());
+    }
+}
+
+/// The origin of what `part` takes for the root, in the place of the root's.
+fn classified(word: &[u8], sheet: &[u8], out: &mut [u8], part: fn(&[u8], usize, usize) -> &[u8]) -> u64 {
+    let code = raw::readings(word, sheet, out);
+    if raw::number(code) == 0 {
+        let (rows, _) = out.as_chunks_mut::<{ raw::READING_ROW }>();
+        for row in &mut rows[..raw::above(code)] {
+            let number = |at: usize| usize::from(u16::from_le_bytes([row[at], row[at + 1]]));
+            let part = part(word, number(2), number(0));
+            let decided = raw::origin(part, sheet);
+            row[22] = (decided >> 8 & 3) as u8;
+            row[23] = (decided >> 10 & 3) as u8;
+            row[24..].copy_from_slice(&raw::confidence(part, sheet).to_le_bytes());
+        }
+    }
+    code
+}
+
+#[test]
+fn the_origin_of_something_else() {
+    // Of the root nothing is seen; of the word, of the stem, and of what the first row has, something is.
+    let root: Fill = |word, sheet, out| classified(word, sheet, out, |word, from, to| &word[from..to]);
+    assert_eq!(seen(with(READINGS, root)), [""; 0]);
+    let plants: [Fill; 2] = [
+        |word, sheet, out| classified(word, sheet, out, |word, _, _| word),
+        |word, sheet, out| classified(word, sheet, out, |word, _, to| &word[..to]),
+    ];
+    for plant in plants {
+        assert_eq!(seen(with(READINGS, plant)), READINGS);
+    }
+    let first: Fill = |word, sheet, out| {
+        let code = raw::readings(word, sheet, out);
+        if raw::number(code) == 0 {
+            let (rows, _) = out.as_chunks_mut::<{ raw::READING_ROW }>();
+            if let [first, others @ ..] = &mut rows[..raw::above(code)] {
+                others.iter_mut().for_each(|row| row[22..].copy_from_slice(&first[22..]));
+            }
+        }
+        code
+    };
+    assert_eq!(seen(with(READINGS, first)), ["readings"]);
+}
+
+#[test]
+fn a_wrong_origin_source_or_confidence() {
+    // t for b and a for d; a source that is as sure as the one it stands for can be; the other confidence of the dictionary, both ways;
+    // the next number up; the sign of 0.0.
+    let plants: [Fill; 8] = [
+        |word, sheet, out| readings_changed(word, sheet, out, |row| byte(&mut row[22], 1, 0)),
+        |word, sheet, out| readings_changed(word, sheet, out, |row| byte(&mut row[22], 2, 3)),
+        |word, sheet, out| readings_changed(word, sheet, out, |row| sure(row, (2, 0.65), (1, 0.90))),
+        |word, sheet, out| readings_changed(word, sheet, out, |row| sure(row, (0, 1.0), (1, 0.95))),
+        |word, sheet, out| readings_changed(word, sheet, out, |row| sure(row, (1, 0.95), (1, 0.90))),
+        |word, sheet, out| readings_changed(word, sheet, out, |row| sure(row, (1, 0.90), (1, 0.95))),
+        |word, sheet, out| readings_changed(word, sheet, out, |row| row[24] = row[24].wrapping_add(1)),
+        |word, sheet, out| readings_changed(word, sheet, out, |row| sure(row, (3, 0.0), (3, -0.0))),
+    ];
+    for plant in plants {
+        assert_eq!(seen(with(READINGS, plant)), READINGS);
+    }
+}
+
+#[test]
+fn a_wrong_tag_letter() {
+    /// The letter before each row's last two bytes as another.
+    fn lettered(word: &[u8], sheet: &[u8], out: &mut [u8], from: u8, to: u8) -> u64 {
+        let code = raw::listing(word, sheet, out);
+        if raw::number(code) == 0 {
+            let text = &mut out[..raw::above(code)];
+            for at in 0..text.len().saturating_sub(3) {
+                if text[at..at + 4] == [b' ', from, b')', b'\n'] {
+                    text[at + 1] = to;
+                }
+            }
+        }
+        code
+    }
+    let plants: [Fill; 4] = [
+        |word, sheet, out| lettered(word, sheet, out, b't', b'b'),
+        |word, sheet, out| lettered(word, sheet, out, b'b', b't'),
+        |word, sheet, out| lettered(word, sheet, out, b'd', b'a'),
+        |word, sheet, out| lettered(word, sheet, out, b'a', b'd'),
+    ];
+    for plant in plants {
+        assert_eq!(seen(with(LISTING, plant)), LISTING);
+    }
+}
+
 #[test]
 fn a_wrong_letter() {
     // w for h, h for w, and one of the two left out.

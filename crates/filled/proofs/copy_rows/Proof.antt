@@ -51,11 +51,11 @@ use denote.Triple.Table.{entered, cited}
 use denote.Triple.Walked.{says, needs, Stays, stay-slice, stay-dropped, walkOf, goes-slice, goes-dropped, Walks, ends-at, walked, walk-meets}
 use denote.Signature.{plain}
 use denote.Exit.{yes}
-use Rattle.ranking.specs.Places.{noReading}
-use Rattle.ranking.specs.declared.Reading.{Reading}
+use Rattle.ranking.specs.Places.{noRow}
+use Rattle.ranking.specs.declared.Classified.{Classified}
 use Rattle.ranking.specs.declared.Listing.{Listing}
-use Rattle.ranking.proofs.Reading as R
-use Rattle.ranking.proofs.Reading.Laws as R′
+use Rattle.ranking.proofs.Classified as R
+use Rattle.ranking.proofs.Classified.Laws as R′
 use Rattle.ranking.proofs.Listing as L
 use Rattle.ranking.proofs.Listing.Laws as L′
 use Rattle.filled.proofs.Mixed.{mixed, mixed-next, mixed-length}
@@ -90,20 +90,20 @@ module _ {M : Type 1} (𝓤 : URA M) (H : Heap 𝓤) (A : Atoms 𝓤) (mem : Mem
   abbrev RowAt : Contract 𝓤
   RowAt = tripleOf 𝓤 H A row-at.signature (row-at.spec 𝓤 H A mem run)
 
-  row-of : (l : Listing) (i : ℕ) (r : Reading) → ent 𝓤 (ensured 𝓤 H A row-at.ended (row-at.clauses 𝓤 H A mem run) tt (l, (i, tt)) tt r) (fact 𝓤 (r ≡ getD (l .rows) i noReading))
-  row-of l i r = exE 𝓤 _ (λ ws. snd∗ 𝓤 (sem 𝓤 H A (lasts row-at.ended tt (l, (i, tt)) ws)) (fact 𝓤 (r ≡ getD (l .rows) i noReading)))
+  row-of : (l : Listing) (i : ℕ) (r : Classified) → ent 𝓤 (ensured 𝓤 H A row-at.ended (row-at.clauses 𝓤 H A mem run) tt (l, (i, tt)) tt r) (fact 𝓤 (r ≡ getD (l .rows) i noRow))
+  row-of l i r = exE 𝓤 _ (λ ws. snd∗ 𝓤 (sem 𝓤 H A (lasts row-at.ended tt (l, (i, tt)) ws)) (fact 𝓤 (r ≡ getD (l .rows) i noRow)))
 
 module _ {M : Type 1} (𝓤 : URA M) (H : Heap 𝓤) (A : Atoms 𝓤) (W : Given 𝓤 H A) (mem : Memory → SProp 𝓤) (run : Routine → Fun 𝓤)
-    (κ : Lft) (q : Share) (b o : ℕ) (γ : GName) (ys : List Reading) (l : Listing) (lv : Val) (n : ℕ)
+    (κ : Lft) (q : Share) (b o : ℕ) (γ : GName) (ys : List Classified) (l : Listing) (lv : Val) (n : ℕ)
     (list-is : Is L.the-row l (lv ∷ [])) (n-fits : n < 2 ^ 64) (room : Room R.the-row (length ys)) (n-in : n ≤ length ys) (n-few : n ≤ 64) (full : length (l .rows) ≡ 64) where
-  abbrev x : List Reading → RefT (List Reading)
+  abbrev x : List Classified → RefT (List Classified)
   x zs = record { ptr = (b, o); name = γ; now = zs }
 
   abbrev s : Val
   s = sliceVal (b, o) (length ys)
 
   abbrev Arg : Type 0
-  Arg = RefT (List Reading) × (Listing × (ℕ × Unit {0}))
+  Arg = RefT (List Classified) × (Listing × (ℕ × Unit {0}))
 
   abbrev a : Arg
   a = (x ys, (l, (n, tt)))
@@ -115,7 +115,7 @@ module _ {M : Type 1} (𝓤 : URA M) (H : Heap 𝓤) (A : Atoms 𝓤) (W : Given
   Post = walkOf 𝓤 H A copy-rows.ended stayed (copy-rows.clauses 𝓤 H A mem run) .post (((κ, tt), (q, tt), tt, a, vals), tt)
 
   -- the slice after i rows
-  abbrev at : ℕ → List Reading
+  abbrev at : ℕ → List Classified
   at i = mixed (l .rows) ys i
 
   at-length : (i : ℕ) → i ≤ n → length (at i) ≡ length ys
@@ -141,7 +141,7 @@ module _ {M : Type 1} (𝓤 : URA M) (H : Heap 𝓤) (A : Atoms 𝓤) (W : Given
   Nearer-wf = InvImage·wf (λ (i : Upto). n - i .0) (Nat·lt-wfRel .wf)
 
   -- the machine values of a row and of the list have the types that the code spells
-  row-typed : (r : Reading) (w : Val) → Is R.the-row r (w ∷ []) → T (hasTy rowTy w) × WT w
+  row-typed : (r : Classified) (w : Val) → Is R.the-row r (w ∷ []) → T (hasTy rowTy w) × WT w
   row-typed r w is = LL.lawful R.the-type R′.the-laws 𝓤 H A W .typed r (w ∷ []) is .0
 
   list-typed : T (hasTy listTy lv) × WT lv
@@ -192,19 +192,19 @@ module _ {M : Type 1} (𝓤 : URA M) (H : Heap 𝓤) (A : Atoms 𝓤) (W : Given
         -- `row_at`
         nothing ! $ use1 W (raw (RowAt 𝓤 H A mem run .pre (to-row (i .0)))) (goes-row (i .0) less) $
         calls-at ! (fmOf 𝓤 H (W .laws) 𝓣) (RowAt 𝓤 H A mem run) known (to-row (i .0)) (and-then ! (load ! (from ! (stop !)) (look ! 8 refl)) (and-then ! (load ! (from ! (stop !)) (look ! 2 refl)) (no-more !))) (λ w.
-        use1 W (later (some (λ (r : Reading). (‵ ftrue ⊛ ‵ (R.the-row .own r (w ∷ []))) ⊛ raw (ensured 𝓤 H A row-at.ended (row-at.clauses 𝓤 H A mem run) tt (l, (i .0, tt)) tt r)))) (id⊢ 𝓤 _) $ await ! tt $ pick ! (λ r.
-        split ! $ move ! (1 ∷ []) $ use1 W (raw (fact 𝓤 (r ≡ getD (l .rows) (i .0) noReading))) (row-of 𝓤 H A mem run l (i .0) r) $ heard ! (r ≡ getD (l .rows) (i .0) noReading) (λ r-is.
+        use1 W (later (some (λ (r : Classified). (‵ ftrue ⊛ ‵ (R.the-row .own r (w ∷ []))) ⊛ raw (ensured 𝓤 H A row-at.ended (row-at.clauses 𝓤 H A mem run) tt (l, (i .0, tt)) tt r)))) (id⊢ 𝓤 _) $ await ! tt $ pick ! (λ r.
+        split ! $ move ! (1 ∷ []) $ use1 W (raw (fact 𝓤 (r ≡ getD (l .rows) (i .0) noRow))) (row-of 𝓤 H A mem run l (i .0) r) $ heard ! (r ≡ getD (l .rows) (i .0) noRow) (λ r-is.
         split ! $ drop ! $ facts ! R.the-row (Is R.the-row) (shows 𝓤 H A R.the-row) r (w ∷ []) (λ is. land ! (from ! (stop !)) (init ! 2 refl (row-typed r w is)) $
         -- the place of `out[i]`
         assigns ! (bin ! (load ! (from ! (stop !)) (look ! 1 refl)) (lit ! tt) (record { fits = product-fits })) (from ! (stop !)) (init ! 4 refl (tt, record { fits = product-fits })) $
         assigns ! (bin ! (load ! (from ! (fld ! refl (stop !))) (look-in ! 6 (sub ! 0 refl (whole !)))) (load ! (from ! (stop !)) (look ! 4 refl)) tt) (from ! (stop !)) (init ! 5 refl (tt, tt)) $
-        rewrite ! 5 (λ (p : ℕ). ‵ (fat fullShare tyPtr l₈ 0 (vptr b p))) (sym (place-is 22 o (i .0))) refl $
+        rewrite ! 5 (λ (p : ℕ). ‵ (fat fullShare tyPtr l₈ 0 (vptr b p))) (sym (place-is 28 o (i .0))) refl $
         -- the element is taken out of the slice, stored to, and put back
-        elem-out ! R.the-row (Is R.the-row) (shows 𝓤 H A R.the-row) (LL.vals R.the-type R′.the-laws) (LL.tells R.the-type R′.the-laws) fullShare (at (i .0)) (i .0) noReading b o within (λ _.
+        elem-out ! R.the-row (Is R.the-row) (shows 𝓤 H A R.the-row) (LL.vals R.the-type R′.the-laws) (LL.tells R.the-type R′.the-laws) fullShare (at (i .0)) (i .0) noRow b o within (λ _.
         assigns ! (of-opd ! (load ! (from ! (stop !)) (look ! 4 refl))) (from ! (hop ! (look ! 7 refl) (stop !))) (store-raw ! 0 refl (row-typed r w is)) $
         move ! (1 ∷ []) $ drop ! $ owned ! R.the-row (Is R.the-row) (LL.makes R.the-type R′.the-plain 𝓤 H A) r (w ∷ []) is $ move ! (1 ∷ 0 ∷ []) $
         elem-put ! R.the-row fullShare (at (i .0)) (i .0) r (w ∷ []) b o within $
-        rewrite ! 0 (λ (zs : List Reading). ‵ (row R.the-row fullShare zs b o)) (stored r r-is) refl $
+        rewrite ! 0 (λ (zs : List Classified). ‵ (row R.the-row fullShare zs b o)) (stored r r-is) refl $
         assigns-last ! (bin ! (load ! (from ! (stop !)) (look ! 1 refl)) (lit ! tt) (record { fits = next-fits })) (from ! (stop !)) (store ! 1 refl (tt, record { fits = next-fits })) $
         forget ! 2 refl $ forget ! 3 refl $ forget ! 4 refl $ forget ! 5 refl $
         again ! Nearer At i next (add-one-dec n (i .0) less))))))
@@ -218,16 +218,16 @@ module _ {M : Type 1} (𝓤 : URA M) (H : Heap 𝓤) (A : Atoms 𝓤) (W : Given
         next-fits : i .0 + 1 < 2 ^ 64
         next-fits = omega (arith, less, n-fits)
 
-        product-fits : i .0 * 22 < 2 ^ 64
+        product-fits : i .0 * 28 < 2 ^ 64
         product-fits = omega (arith, less, n-few)
 
         within : i .0 < length (at (i .0))
         within = omega (arith, less, n-in, at-length (i .0) (i .1))
 
-        stored : (r : Reading) → r ≡ getD (l .rows) (i .0) noReading → set (at (i .0)) (i .0) r ≡ at (i .0 + 1)
+        stored : (r : Classified) → r ≡ getD (l .rows) (i .0) noRow → set (at (i .0)) (i .0) r ≡ at (i .0 + 1)
         stored r r-is =
             let e : i .0 + 1 ≡ suc (i .0) = omega arith in
-            ap (set (at (i .0)) (i .0)) r-is ∙ mixed-next (l .rows) ys (i .0) noReading (omega (arith, less, n-few, full)) (omega (arith, less, n-in)) ∙ ap at (sym e)
+            ap (set (at (i .0)) (i .0)) r-is ∙ mixed-next (l .rows) ys (i .0) noRow (omega (arith, less, n-few, full)) (omega (arith, less, n-in)) ∙ ap at (sym e)
 
     -- the turn that leaves the loop, and the rest of the body: the borrow is closed
     ends : (i : Upto) → ltb (i .0) n ≡ false → i .0 ≡ n → Sq W (At i) (runs C Λ En mir′.turn-1 (anyQ (Turned i)))

@@ -42,9 +42,9 @@ use denote.Triple.Table.{entered, cited}
 use denote.Triple.Walked.{says, Stays, stay-dropped, gave-slice, walkOf, goes-dropped, goes-gave-slice, Walks, ends-at, walked, walk-meets}
 use denote.Signature.{plain, shrSliceOf}
 use denote.Exit.{yes}
-use Rattle.ranking.specs.declared.Reading.{Reading}
+use Rattle.ranking.specs.declared.Classified.{Classified}
 use Rattle.ranking.specs.declared.Listing.{Listing}
-use Rattle.ranking.proofs.Reading as R
+use Rattle.ranking.proofs.Classified as R
 use Rattle.ranking.proofs.Listing as L
 use Rattle.ranking.proofs.Listing.Laws as L′
 use Rattle.analysis.specs.Answers.{rowsGiven}
@@ -116,9 +116,9 @@ module _ {M : Type 1} (𝓤 : URA M) (H : Heap 𝓤) (A : Atoms 𝓤) (mem : Mem
   plan-of κ₀ κ₁ w s m p = exE 𝓤 _ (λ ws. snd∗ 𝓤 (sem 𝓤 H A (lasts planned.ended (κ₀, (κ₁, tt)) (w, (s, (m, tt))) ws)) (fact 𝓤 (Planned (w .now) (s .now) m p)))
 
 module _ {M : Type 1} (𝓤 : URA M) (H : Heap 𝓤) (A : Atoms 𝓤) (W : Given 𝓤 H A) (mem : Memory → SProp 𝓤) (run : Routine → Fun 𝓤)
-    (κ₀ κ₁ κ₂ : Lft) (q₀ q₁ q₂ : Share) (w sh : RefT (List ℕ)) (b o : ℕ) (γ : GName) (ys : List Reading)
+    (κ₀ κ₁ κ₂ : Lft) (q₀ q₁ q₂ : Share) (w sh : RefT (List ℕ)) (b o : ℕ) (γ : GName) (ys : List Classified)
     (w-room : Room u8 (length (w .now))) (sh-room : Room u8 (length (sh .now))) (room : Room R.the-row (length ys)) where
-  abbrev x : RefT (List Reading)
+  abbrev x : RefT (List Classified)
   x = record { ptr = (b, o); name = γ; now = ys }
 
   abbrev sw : Val
@@ -131,7 +131,7 @@ module _ {M : Type 1} (𝓤 : URA M) (H : Heap 𝓤) (A : Atoms 𝓤) (W : Given
   so = sliceVal (b, o) (length ys)
 
   abbrev Arg : Type 0
-  Arg = RefT (List ℕ) × (RefT (List ℕ) × (RefT (List Reading) × Unit {0}))
+  Arg = RefT (List ℕ) × (RefT (List ℕ) × (RefT (List Classified) × Unit {0}))
 
   abbrev a : Arg
   a = (w, (sh, (x, tt)))
@@ -170,7 +170,7 @@ module _ {M : Type 1} (𝓤 : URA M) (H : Heap 𝓤) (A : Atoms 𝓤) (W : Given
         nothing ! $ owned ! usize (Is usize) (uint-makes 𝓤 H A W w64) (p .count) _ (refl, count-fits) $ fjoin ! $
         owned ! L.the-row (Is L.the-row) (LL.makes L.the-type L′.the-plain 𝓤 H A) (p .list) (lv ∷ []) list-is $ fjoin ! $ move ! (1 ∷ 0 ∷ []) $ fjoin ! $ done !
 
-    exits : (zs : List Reading) → zs ≡ take (p .count) (p .list .rows) ++ drop (p .count) ys → length zs ≡ length ys
+    exits : (zs : List Classified) → zs ≡ take (p .count) (p .list .rows) ++ drop (p .count) ys → length zs ≡ length ys
         → ent 𝓤 (⋆ 𝓤 H A ((‵ (flft κ₀ q₀) ⊛ (‵ (flft κ₁ q₁) ⊛ ‵ ftrue)) ∷ (‵ (flft κ₂ q₂) ⊛ ‵ ftrue) ∷ ‵ (finally R.the-row γ zs) ∷ [])) (Post fv)
     exits zs is same =
         qed W ((‵ (flft κ₀ q₀) ⊛ (‵ (flft κ₁ q₁) ⊛ ‵ ftrue)) ∷ (‵ (flft κ₂ q₂) ⊛ ‵ ftrue) ∷ ‵ (finally R.the-row γ zs) ∷ []) ∵
@@ -202,7 +202,7 @@ module _ {M : Type 1} (𝓤 : URA M) (H : Heap 𝓤) (A : Atoms 𝓤) (W : Given
           calls-at ! (fmOf 𝓤 H (W .laws) 𝓣) (Copies 𝓤 H A mem run) known-copy to-copy
           (and-then ! (load ! (from ! (stop !)) (look ! 2 refl)) (and-then ! (load ! (from ! (stop !)) (look ! 10 refl)) (and-then ! (load ! (from ! (fld ! refl (stop !))) (look-in ! 12 (sub ! 1 refl (whole !)))) (no-more !)))) (λ v.
           use1 W (later (some (λ (u : Unit {0}). ((‵ (flft κ₂ q₂) ⊛ ‵ ftrue) ⊛ ‵ (unit .own u (v ∷ []))) ⊛ raw (ensured 𝓤 H A copy-rows.ended (copy-rows.clauses 𝓤 H A mem run) (κ₂, tt) (x, (p .list, (p .count, tt))) tt u)))) (id⊢ 𝓤 _) $ await ! tt $ pick ! (λ u.
-          split ! $ move ! (1 ∷ []) $ use1 W (some (λ (zs : List Reading × (Unit {0} × (Unit {0} × Unit {0}))). ‵ (lasts copy-rows.ended (κ₂, tt) (x, (p .list, (p .count, tt))) zs) ⊛ raw (fact 𝓤 (zs .0 ≡ take (p .count) (p .list .rows) ++ drop (p .count) ys)))) (id⊢ 𝓤 _) $ pick ! (λ zs.
+          split ! $ move ! (1 ∷ []) $ use1 W (some (λ (zs : List Classified × (Unit {0} × (Unit {0} × Unit {0}))). ‵ (lasts copy-rows.ended (κ₂, tt) (x, (p .list, (p .count, tt))) zs) ⊛ raw (fact 𝓤 (zs .0 ≡ take (p .count) (p .list .rows) ++ drop (p .count) ys)))) (id⊢ 𝓤 _) $ pick ! (λ zs.
           split ! $ move ! (1 ∷ []) $ heard ! (zs .0 ≡ take (p .count) (p .list .rows) ++ drop (p .count) ys) (λ is. fsplit ! $ fsplit ! $ move ! (1 ∷ []) $ feqL ! (λ same.
           -- [the last list; …; the token and the result; the other tokens; …]
           move ! (2 ∷ []) $ split ! $ move ! (1 ∷ []) $ facts ! unit (Is unit) (shows 𝓤 H A unit) u (v ∷ []) (λ unit-is.

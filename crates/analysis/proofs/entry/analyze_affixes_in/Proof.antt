@@ -8,7 +8,7 @@ use Rattle.sheet.specs.Replies.{reply}
 use Rattle.paths.specs.Visits.{visitsOf}
 use Rattle.sheet.specs.declared.inputs.Inputs.{Inputs}
 use Rattle.lookup.proofs.Readied.{said-indexed, word-said}
-use Rattle.analysis.specs.Answers.{collected, saidBy, rowsBy, saidOf, rowsGiven, visitsBy, visitsGiven}
+use Rattle.analysis.specs.Answers.{collected, listedRows, saidBy, rowsBy, saidOf, rowsGiven, visitsBy, visitsGiven}
 use Rattle.analysis.proofs.entry.analyze_affixes_in.Statement.{statement}
 use Rattle.analysis.proofs.entry.analyze_affixes_in.Tie as tie
 
@@ -27,9 +27,9 @@ module _ (c : tie.After-prepare-word) where
   unfolding saidOf
   said-by x e = ap (λ (i : Inputs). saidBy i (collected w s)) (sym e ∙ c .prepare-word .ensures ∙ said-indexed w s (c .before .before .before .before .pre .accepted))
 
-  rows-by : (x : Inputs) → c .prepare-word .result ≡ x → rowsBy x (collected w s) ≡ rowsGiven w s
+  rows-by : (x : Inputs) → c .prepare-word .result ≡ x → rowsBy x (listedRows (reply s) w (collected w s)) ≡ rowsGiven w s
   unfolding rowsGiven
-  rows-by x e = ap (λ (i : Inputs). rowsBy i (collected w s)) (sym e ∙ c .prepare-word .ensures ∙ said-indexed w s (c .before .before .before .before .pre .accepted))
+  rows-by x e = ap (λ (i : Inputs). rowsBy i (listedRows (reply s) w (collected w s))) (sym e ∙ c .prepare-word .ensures ∙ said-indexed w s (c .before .before .before .before .pre .accepted))
 
   visits-by : (x : Inputs) → c .prepare-word .result ≡ x → visitsBy x (visitsOf (reply s) w) ≡ visitsGiven w s
   unfolding visitsGiven

@@ -11,7 +11,7 @@ use Rattle.sheet.specs.Replies.{reply}
 use Rattle.paths.specs.Visits.{visitsOf}
 use Rattle.sheet.specs.declared.inputs.Inputs.{Inputs}
 use Rattle.lookup.proofs.Readied.{said-refused, indexed}
-use Rattle.analysis.specs.Answers.{collected, saidBy, rowsBy, saidOf, rowsGiven, visitsBy, visitsGiven}
+use Rattle.analysis.specs.Answers.{collected, listedRows, saidBy, rowsBy, saidOf, rowsGiven, visitsBy, visitsGiven}
 use Rattle.analysis.proofs.entry.answered.Statement.{statement}
 use Rattle.analysis.proofs.entry.answered.Tie as tie
 
@@ -30,9 +30,9 @@ module _ (c : tie.After-prepare-sheet) where
   unfolding saidOf
   said-by x e = ap (λ (i : Inputs). saidBy i (collected w s)) e
 
-  rows-by : (x : Inputs) → x ≡ inputsOf w s → rowsBy x (collected w s) ≡ rowsGiven w s
+  rows-by : (x : Inputs) → x ≡ inputsOf w s → rowsBy x (listedRows (reply s) w (collected w s)) ≡ rowsGiven w s
   unfolding rowsGiven
-  rows-by x e = ap (λ (i : Inputs). rowsBy i (collected w s)) e
+  rows-by x e = ap (λ (i : Inputs). rowsBy i (listedRows (reply s) w (collected w s))) e
 
   visits-by : (x : Inputs) → x ≡ inputsOf w s → visitsBy x (visitsOf (reply s) w) ≡ visitsGiven w s
   unfolding visitsGiven

@@ -7,7 +7,7 @@ nothing-requires : tie.Need-nothing-requires
 nothing-requires c κs = tt
 
 returns : tie.Need-returns
-returns c = let k = c .before in (refl, k .nothing .ensures .1, k .nothing .ensures .2, refl)
+returns c = (refl, c .nothing .ensures .0, c .nothing .ensures .1, refl)
 
 pub refused-spec : {M : Type 1} → statement M
 refused-spec = tie.close (tie.spec nothing-requires returns)

@@ -10,7 +10,7 @@ use Rattle.listing.specs.Texts.{rowTexts, listingText, rowRoom}
 use Rattle.writing.proofs.Puts.{put-both, put-as}
 use Rattle.listing.proofs.Parted.{take-least}
 use borrow.Author.Needs.{needs}
-use Rattle.ranking.specs.declared.Reading.{Reading}
+use Rattle.ranking.specs.declared.Classified.{Classified}
 use Rattle.listing.proofs.Room.{listing-size}
 use Rattle.listing.proofs.rows.put_listing.Statement.{statement}
 use Rattle.listing.proofs.rows.put_listing.Tie as tie
@@ -78,7 +78,7 @@ returns c =
       put-both (p1 .put .ensures)
           (put-both (put-as (ap decimal k) (p2 .put-decimal .ensures))
           (put-both (p3 .put2 .ensures) (put-as (ap (rowTexts (b .args .word .now)) e) (p4 .put-rows .ensures .0)))),
-      λ h. listing-size w (take (b .args .list .count) rs) (n .least .result) (omega arith) k (subst (λ (l : List Reading). length (rowTexts w l) ≤ n .least .result * rowRoom) e (p4 .put-rows .ensures .1 h)),
+      λ h. listing-size w (take (b .args .list .count) rs) (n .least .result) (omega arith) k (subst (λ (l : List Classified). length (rowTexts w l) ≤ n .least .result * rowRoom) e (p4 .put-rows .ensures .1 h)),
     )
 
 same-length : tie.Need-same-length

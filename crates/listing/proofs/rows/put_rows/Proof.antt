@@ -3,7 +3,7 @@ use Prim.Native.Nat.{_+_, _-_, _*_, _≤_}
 use native.Mathlib.Omega.{arith}
 use mathlib.Core.Path.{_≡_, ap}
 use lib.ListN.{length, take, drop, length-map}
-use Rattle.ranking.specs.Places.{noReading}
+use Rattle.ranking.specs.Places.{noRow}
 use Rattle.ranking.proofs.Puts.{scan-next, scan-end}
 use Rattle.text.specs.Word.{wordLimit}
 use Rattle.listing.specs.Texts.{rowText, rowTexts, rowRoom}
@@ -48,7 +48,7 @@ loop-again c =
     let d = p .before .before .before .before in
     let a = d .before .before .before .before .before .before .before .args in
     let l = d .loop in
-    let e = scan-next (a .t8 .rows) (a .n) noReading (l .inv .1) (l .i) (omega arith) in (
+    let e = scan-next (a .t8 .rows) (a .n) noRow (l .inv .1) (l .i) (omega arith) in (
       omega arith,
       l .inv .1,
       upto-more (l .inv .2) (p .put-row .ensures .0) (ap (rowTexts (a .word .now)) e),
@@ -62,7 +62,7 @@ returns : tie.Need-returns Inv-loop μ-loop
 returns c =
     let d = c .before in
     let a = d .before .before .before .before .before .before .before .args in
-    let e = scan-end (a .t8 .rows) (a .n) noReading (d .loop .inv .1) (d .loop .i) (c .loop-test .left) in
+    let e = scan-end (a .t8 .rows) (a .n) noRow (d .loop .inv .1) (d .loop .i) (c .loop-test .left) in
     (upto-all (d .loop .inv .2) (ap (rowTexts (a .word .now)) e), λ h. rows-end (a .word .now) (d .loop .i) _ _ (d .loop .inv .3 h) (a .n) (d .loop .inv .0) e)
 
 pub put-rows-spec : {M : Type 1} → statement M

@@ -1,12 +1,14 @@
 -- `marks::has_aagantuk_markers` meets its contract: the texts cut are the table's, and the nukta is sought behind the first character.
 -- Assumes nothing.
-use mathlib.Core.Path.{_≡_, sym, ap, _∙_}
+use mathlib.Core.Path.{_≡_, sym, ap, _∙_, subst}
 use mathlib.Core.List.{List}
 use Prim.Native.Nat.{ℕ}
 use lib.ListN.{drop}
 use Rattle.origin.specs.Marks.{contains, containsOne, aagantukMarks, nukta, afterFirst, hasAagantukMarkers}
 use Rattle.origin.proofs.Marked.{can-cut, cut-rows, aagantuk-some, aagantuk-cut, or-true, or-false}
 use borrow.Author.Needs.{needs}
+use Rattle.origin.specs.Quick.{Opens}
+use Rattle.origin.proofs.Ruled.{aagantuk-opens}
 use Rattle.origin.proofs.marks.has_aagantuk_markers.Statement.{statement}
 use Rattle.origin.proofs.marks.has_aagantuk_markers.Tie as tie
 
@@ -31,7 +33,10 @@ slice-aggregate-contains-one-2 : tie.Need-slice-aggregate-contains-one-2
 slice-aggregate-contains-one-2 c = search needs
 
 contains-one-requires : tie.Need-contains-one-requires
-contains-one-requires c κs = can-cut aagantukMarks _ _ aagantuk-some (c .before .before .before .aagantuk-marks .ensures) (c .before .before .aagantuk-mark-starts .ensures)
+contains-one-requires c κs =
+    let p = c .before .before .before .aagantuk-marks .ensures in
+    let q = c .before .before .aagantuk-mark-starts .ensures in
+    (can-cut aagantukMarks _ _ aagantuk-some p q, subst Opens (sym (cut-rows aagantukMarks _ _ aagantuk-cut p q)) aagantuk-opens)
 
 returns : tie.Need-returns
 unfolding hasAagantukMarkers

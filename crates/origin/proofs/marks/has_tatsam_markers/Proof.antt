@@ -1,10 +1,12 @@
 -- `marks::has_tatsam_markers` meets its contract: the texts cut are the table's. Assumes nothing.
-use mathlib.Core.Path.{ap, _∙_}
+use mathlib.Core.Path.{ap, _∙_, sym, subst}
 use mathlib.Core.List.{List}
 use Prim.Native.Nat.{ℕ}
 use Rattle.origin.specs.Marks.{containsOne, tatsamMarks, hasTatsamMarkers}
 use Rattle.origin.proofs.Marked.{can-cut, cut-rows, tatsam-some, tatsam-cut}
 use borrow.Author.Needs.{needs}
+use Rattle.origin.specs.Quick.{Opens}
+use Rattle.origin.proofs.Ruled.{tatsam-opens}
 use Rattle.origin.proofs.marks.has_tatsam_markers.Statement.{statement}
 use Rattle.origin.proofs.marks.has_tatsam_markers.Tie as tie
 
@@ -21,7 +23,10 @@ slice-aggregate-contains-one-2 : tie.Need-slice-aggregate-contains-one-2
 slice-aggregate-contains-one-2 c = search needs
 
 contains-one-requires : tie.Need-contains-one-requires
-contains-one-requires c κs = can-cut tatsamMarks _ _ tatsam-some (c .before .before .before .tatsam-marks .ensures) (c .before .before .tatsam-mark-starts .ensures)
+contains-one-requires c κs =
+    let p = c .before .before .before .tatsam-marks .ensures in
+    let q = c .before .before .tatsam-mark-starts .ensures in
+    (can-cut tatsamMarks _ _ tatsam-some p q, subst Opens (sym (cut-rows tatsamMarks _ _ tatsam-cut p q)) tatsam-opens)
 
 returns : tie.Need-returns
 unfolding hasTatsamMarkers
