@@ -73,9 +73,19 @@ def used(root):
     return words
 
 
+def borrowed(root):
+    """The names that some file takes from the logic's libraries."""
+    names = set()
+    for path in sources(root):
+        for m in re.finditer(r"\buse (?:mathlib|lib|borrow|native|Prim|Rattle\.std)\b[^\s{;]*\.\{([^}]*)\}", read(path)):
+            names |= set(re.split(r"[,\s]+", m[1]))
+    return names
+
+
 def table(root):
     ours, specs, goals = names_of(root)
     taken = used(root)
+    lent = borrowed(root)
     definitions = {n for n in specs if re.fullmatch(r"[a-z][A-Za-z0-9_']*", n)}
     heads = HEADS | {snake(n) for n in definitions}
     rows = {}
@@ -88,7 +98,7 @@ def table(root):
         if new in ours and new not in rows:
             rows[new] = new + "_lem"
     for name in sorted(ours):
-        if name in goals or name in rows or "-" not in name or not re.match(r"[a-z]", name):
+        if name in goals or name in rows or name in lent or "-" not in name or not re.match(r"[a-z]", name):
             continue
         parts = [snake(p) if re.fullmatch(r"[a-z][A-Za-z0-9_']*", p) else p for p in name.split("-")]
         new = ("-" if all(p in heads for p in parts) else "_").join(parts)
@@ -113,10 +123,14 @@ def turned(text, rows, rt):
         w = m[0]
         return rows.get(w, w)
 
+    def dashed(m):
+        return word(m) if "-" in m[0] else m[0]
+
     if rt:
         # camel case stands in clauses and comments alone; a dash only in a comment's code spans
         text = re.sub(r"\b[a-z]\w*[A-Z]\w*\b", word, text)
-        return re.sub(r"`[^`\n]+`", lambda m: re.sub(WORD, word, m[0]), text)
+        text = re.sub(r"ghost use [^;]*;|(?:requires|ensures) \w* ?\{[^\n]*", lambda m: re.sub(WORD, dashed, m[0]), text)
+        return re.sub(r"`[^`\n]+`", lambda m: re.sub(WORD, dashed, m[0]), text)
     return re.sub(WORD, word, text)
 
 

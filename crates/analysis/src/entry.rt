@@ -23,7 +23,7 @@ use sheet::inputs::Inputs;
 use sheet::limits::{ALL_STARTS, FEW_STARTS, SMALL_BYTES};
 
 // What is said beside the list: it is given, or why it is not, of which there being more than 64 readings is one reason.
-#[derive(Drop)]
+#[derive(Clone, Copy)]
 pub enum Said {
     Listed,
     Refused(Refusal),
@@ -31,7 +31,7 @@ pub enum Said {
 
 // The list of readings, empty after a refusal, and what is said of it; beside it how many pieces were visited, 0 where word or sheet is
 // refused.
-#[derive(Drop)]
+#[derive(Clone, Copy)]
 pub struct Analysis {
     pub said: Said,
     pub visits: usize,
@@ -39,7 +39,7 @@ pub struct Analysis {
 }
 
 // The answer of `best_analysis`: what is said as of the list, whether there is a reading, and the first one.
-#[derive(Drop)]
+#[derive(Clone, Copy)]
 pub struct Best {
     pub said: Said,
     pub some: bool,
@@ -47,14 +47,14 @@ pub struct Best {
 }
 
 // The answer of `has_supported_analysis`.
-#[derive(Drop)]
+#[derive(Clone, Copy)]
 pub enum Has {
     Refused(Refusal),
     Given(bool),
 }
 
 // The answer of `visits_of`.
-#[derive(Drop)]
+#[derive(Clone, Copy)]
 pub enum Visits {
     Refused(Refusal),
     Given(usize),

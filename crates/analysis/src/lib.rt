@@ -1,4 +1,6 @@
 // Readings of a word: what the strip rules allow and the sheet supports.
+#![tactic(auto)]
+
 pub mod entry;
 pub mod fronts;
 pub mod origins;

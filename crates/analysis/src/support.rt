@@ -15,7 +15,7 @@ use sheet::letters::Letters;
 use tables::row;
 
 // What the sheet says of a root: known by w, by h, an appended form known, a supported progressive form.
-#[derive(Drop)]
+#[derive(Clone, Copy)]
 pub struct Support {
     pub word: bool,
     pub head: bool,

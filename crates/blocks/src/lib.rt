@@ -1,15 +1,17 @@
 // The oracle's file of cases (oracle/README.md, "The block format"), read case by case. The programs that replay its answers use it.
+#![tactic(auto)]
+
 ghost use Rattle.std.specs.Prelude.{◌≡◌, ◌≤◌, ◌<◌, length};
 
 // A number, and the place after the byte that ends it.
-#[derive(Drop)]
+#[derive(Clone, Copy)]
 struct Number {
     value: usize,
     next: usize,
 }
 
 // A case: the word stands from `word` to `sheet`, the sheet from there to `end`, and the next case begins at `next`.
-#[derive(Drop)]
+#[derive(Clone, Copy)]
 pub struct Case {
     pub word: usize,
     pub sheet: usize,

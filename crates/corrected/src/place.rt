@@ -20,21 +20,21 @@ use sheet::line::{name_end, value_end};
 use sheet::walk::{Before, Reached, Walk};
 
 // The bytes of a line in the sheet: from its first byte up to behind its 0A. Of a line that is not there, the place where it would stand.
-#[derive(Drop)]
+#[derive(Clone, Copy)]
 pub(crate) struct Span {
     pub from: usize,
     pub to: usize,
 }
 
 // What a given line is: a single form with its 0A, with its first letter and where its name ends; or anything else.
-#[derive(Drop)]
+#[derive(Clone, Copy)]
 pub(crate) enum Given {
     Single { letter: u8, name_end: usize },
     Other,
 }
 
 // What is found for an edit: where the line stands, or why the edit is refused before that is asked.
-#[derive(Drop)]
+#[derive(Clone, Copy)]
 pub(crate) enum Opened {
     At(Span),
     Refused(Refusal),

@@ -45,5 +45,5 @@ pub(crate) fn replace(buf: &mut [u8], from: usize, to: usize, used: usize, text:
 {
     let end = from + text.len();
     shift(buf, to, end, used - to);
-    bytes::copy(text, &mut buf[from..end]);
+    buf[from..end].copy_from_slice(text);
 }

@@ -13,7 +13,7 @@ use sheet::limits::{ALL_STARTS, FEW_STARTS, SMALL_BYTES};
 use tables::origins::Origin;
 
 // The answer of `decompose`: what is said of word and sheet, and the decomposition where both are accepted.
-#[derive(Drop)]
+#[derive(Clone, Copy)]
 pub struct MorphemeAnswer {
     pub inputs: Inputs,
     pub morpheme: Morpheme,

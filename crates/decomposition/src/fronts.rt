@@ -11,7 +11,7 @@ use strips::prefix::{Rest, prefix_rest};
 use tables::row;
 
 // What a prefix leaves of a word: how many prefixes were stripped, one or none, its row, and the byte from which on the word is left.
-#[derive(Drop)]
+#[derive(Clone, Copy)]
 pub struct Front {
     pub count: u8,
     pub row: u8,

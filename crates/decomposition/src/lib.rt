@@ -1,4 +1,6 @@
 // Decomposition of a word: one prefix and every suffix row in turn, as far as the sheet knows what is left.
+#![tactic(auto)]
+
 ghost use Rattle.std.specs.Prelude.{◌≡◌, ◌+◌, ◌≤◌, ◌<◌, length};
 ghost use Rattle.sheet.specs.Replies.{reply, Indexed};
 ghost use Rattle.tables.specs.Rows.{suffixes, prefix_forms};
@@ -19,7 +21,7 @@ pub mod suffixes;
 
 // A word in parts. The root is the word's bytes from `start` up to `end`; `prefix` is the row of a label of PREFIX_FORMS, where there
 // is one, and `suffixes` the rows of the labels of SUFFIXES in strip order; places that are not used are 0.
-#[derive(Drop)]
+#[derive(Clone, Copy)]
 pub struct Parts {
     pub start: u8,
     pub end: u8,
@@ -30,7 +32,7 @@ pub struct Parts {
 }
 
 // A decomposition: the parts, and the origin of the whole word.
-#[derive(Drop)]
+#[derive(Clone, Copy)]
 pub struct Morpheme {
     pub parts: Parts,
     pub origin: Origin,

@@ -14,7 +14,7 @@ use strips::suffix::{Rests, bars, suffix_rests};
 use tables::row;
 
 // What is left of a piece: nothing that counts, or its first bytes.
-#[derive(Drop)]
+#[derive(Clone, Copy)]
 pub enum Left {
     Nothing,
     Whole(usize),
@@ -22,7 +22,7 @@ pub enum Left {
 
 // A piece on the way: its first `len` bytes are left, and the first `count` labels are the rows stripped, outermost first. Places
 // that are not used are 0.
-#[derive(Drop)]
+#[derive(Clone, Copy)]
 pub struct Stripped {
     pub len: usize,
     pub count: u8,

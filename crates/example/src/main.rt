@@ -1,4 +1,6 @@
 // The README's example: the root of a word's best reading, by the core call.
+#![tactic(auto)]
+
 use analysis::entry::analyze_affixes;
 use libc::STDOUT_FILENO;
 use ranking::root_of;

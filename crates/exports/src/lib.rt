@@ -1,4 +1,6 @@
 // The static library's functions: what Rust and C call. They take numbers and slices of numbers alone.
+#![tactic(auto)]
+
 ghost use Rattle.std.specs.Prelude.{◌≡◌, ◌+◌, ◌*◌, ◌≤◌};
 ghost use Rattle.text.specs.Word.{word_check, word_limit};
 ghost use Rattle.sheet.specs.Limits.{sheet_limit};

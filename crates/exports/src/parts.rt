@@ -6,7 +6,6 @@ ghost use Rattle.exports.specs.Filled.{parts_bytes, morpheme_bytes, candidate_by
 ghost use Rattle.exports.specs.Rows.{each, rows_filled};
 
 use crate::{origin_number, refusal_code};
-use bytes::copy;
 use decomposition::entries::decompose;
 use decomposition::{Morpheme, Parts};
 use refusals::Refusal;
@@ -56,7 +55,7 @@ fn put_parts(p: Parts, a: u8, b: u8, c: u8, d: u8, out: &mut [u8])
         s[22],
         s[23],
     ];
-    copy(&all, out);
+    out.copy_from_slice(&all);
 }
 
 fn bit_of(b: bool) -> u8

@@ -18,7 +18,6 @@ use crate::parts::origin_byte;
 use crate::{refusal_code, source_number};
 use analysis::entry::keep_readings;
 use analysis::origins::classify_root;
-use bytes::copy;
 use lookup::lines::{first_refusal, prepare_sheet, prepare_word};
 use lookup::starts::Start;
 use origin::OriginSource;
@@ -65,7 +64,7 @@ fn put_row(row: Classified, out: &mut [u8])
         (bits / 16777216) as u8,
     ];
     put_reading(reading, out);
-    copy(&rest, &mut out[WIDTH..]);
+    out[WIDTH..].copy_from_slice(&rest);
 }
 
 // The first n rows that the walk has kept, each with its root's origin, one after the other at the front of the buffer, and their number; 8

@@ -11,7 +11,7 @@ use roots::{RootCandidate, Roots};
 use sheet::inputs::Inputs;
 
 // What is to be written, the first `count` rows of the list, and what is said of it.
-#[derive(Drop)]
+#[derive(Clone, Copy)]
 struct Plan {
     list: Roots,
     count: usize,

@@ -1,4 +1,6 @@
 // The entry that fills a lent slice of readings: the core call's list, copied; the elements past it are left.
+#![tactic(auto)]
+
 ghost use Rattle.std.specs.Prelude.{◌≡◌, ◌++◌, ◌≤◌, ◌<◌, length, take, drop, get_or};
 ghost use Rattle.ranking.specs.Lists.{list_limit, rows_of};
 ghost use Rattle.ranking.specs.Places.{no_row};
@@ -12,7 +14,7 @@ use refusals::{Refusal, Written};
 pub mod candidates;
 
 // What is to be written, the first `count` rows of the list, and what is said of it.
-#[derive(Drop)]
+#[derive(Clone, Copy)]
 struct Plan {
     list: Listing,
     count: usize,

@@ -10,7 +10,7 @@ use lib.ListN.{length, take, drop, length-append, length-drop, drop_of_length-le
 use lib.Seq.{take_all, take-length, take_at}
 use lib.Dec.{leb}
 use borrow.Author.Tests.{le-leb, lt-leb}
-use Rattle.bytes.specs.Bytes.{slice, index_of}
+use Rattle.runs.specs.Bytes.{slice, index_of}
 use Rattle.writing.specs.Placed.{Answer, Whole}
 use Rattle.writing.specs.Refused.{refused_text}
 use Rattle.listing.specs.Texts.{listing_room}

@@ -1,7 +1,7 @@
 -- What is written for a word and a sheet, and what the program `readings` prints for its input (document 01, "What an entry hands
 -- back" and "Readings worked by hand"). Assumes nothing.
 use Rattle.std.specs.Prelude.{ℕ, ◌+◌, List, [], ◌∷◌, length, take, drop, leb}
-use Rattle.bytes.specs.Bytes.{index_of}
+use Rattle.runs.specs.Bytes.{index_of}
 use Rattle.runs.specs.Runs.{pick}
 use Rattle.ranking.specs.declared.Classified.{Classified}
 use Rattle.refusals.specs.Refusals.{numbers_of, output_by}

@@ -1,6 +1,6 @@
 // The readings of a word as text, and the program's answer to its input.
 ghost use Rattle.std.specs.Prelude.{◌≡◌, ◌+◌, ◌≤◌, length, drop};
-ghost use Rattle.bytes.specs.Bytes.{index_of};
+ghost use Rattle.runs.specs.Bytes.{index_of};
 ghost use Rattle.writing.specs.Placed.{Answer};
 ghost use Rattle.listing.specs.Texts.{listing_room};
 ghost use Rattle.listing.specs.Printed.{outcome_of, left_of, readings_text, printed};
@@ -56,6 +56,6 @@ pub fn print_answer(input: &[u8], out: &mut [u8]) -> Written
     if 65536 < input.len() {
         return write_refused(Refusal::SheetTooLong, out);
     }
-    let end = bytes::scan::find(input, 0, input.len(), b'\n');
+    let end = runs::find(input, 0, input.len(), b'\n');
     print_readings(&input[..end], after(input, end), out)
 }

@@ -1,4 +1,6 @@
 // The text of a list of readings, written into a lent buffer.
+#![tactic(auto)]
+
 ghost use Rattle.std.specs.Prelude.{◌≡◌, ◌≤◌, length};
 ghost use Rattle.text.specs.Word.{word_limit};
 ghost use Rattle.ranking.specs.Lists.{rows_of};

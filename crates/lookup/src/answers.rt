@@ -13,7 +13,7 @@ use sheet::letters::{Letters, Tag, read_letters};
 use sheet::line::{name_end, value_end};
 
 // A part of the sheet: `len` bytes from byte `at` on, or none, which is 0 bytes at 0.
-#[derive(Drop)]
+#[derive(Clone, Copy)]
 pub struct Spot {
     pub found: bool,
     pub at: usize,
@@ -21,7 +21,7 @@ pub struct Spot {
 }
 
 // What a sheet says of a suffix.
-#[derive(Drop)]
+#[derive(Clone, Copy)]
 pub enum SheetKind {
     Unlisted,
     Post,

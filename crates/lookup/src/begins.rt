@@ -11,14 +11,14 @@ use runs::Order;
 use sheet::keys::{head_order, order_behind};
 
 // Lines of a sheet by their numbers: from `lo` on, before `hi`.
-#[derive(Drop)]
+#[derive(Clone, Copy)]
 pub struct Range {
     pub lo: usize,
     pub hi: usize,
 }
 
 // Where such lines can begin, and a number before which they end.
-#[derive(Drop)]
+#[derive(Clone, Copy)]
 pub(crate) struct Edge {
     pub lo: usize,
     pub top: usize,

@@ -1,4 +1,6 @@
 // Questions to an accepted sheet, each settled by a bisection over the stored first bytes of its lines.
+#![tactic(auto)]
+
 pub mod answers;
 pub mod begins;
 pub mod lines;

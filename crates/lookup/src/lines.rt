@@ -15,14 +15,14 @@ use sheet::walk::{Before, Reached, Walk};
 use text::word::{WordCheck, check_word};
 
 // What is said of a sheet, and of how many lines the first byte is stored.
-#[derive(Drop)]
+#[derive(Clone, Copy)]
 pub struct Checked {
     pub said: SheetCheck,
     pub lines: usize,
 }
 
 // What is said of a word and a sheet together, and of how many lines the first byte is stored.
-#[derive(Drop)]
+#[derive(Clone, Copy)]
 pub struct Ready {
     pub inputs: Inputs,
     pub lines: usize,

@@ -11,14 +11,14 @@ use sheet::keys::line_order;
 use sheet::limits::ROUNDS;
 
 // What a search finds: the first byte of the question's line, or that there is no such line.
-#[derive(Drop)]
+#[derive(Clone, Copy)]
 pub enum Found {
     At(usize),
     Nothing,
 }
 
 // What a search gives: what it found, and how many lines it compared.
-#[derive(Drop)]
+#[derive(Clone, Copy)]
 pub(crate) struct Search {
     pub found: Found,
     pub rounds: usize,

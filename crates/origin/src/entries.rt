@@ -13,14 +13,14 @@ use sheet::limits::{ALL_STARTS, FEW_STARTS, SMALL_BYTES};
 use tables::origins::Origin;
 
 // The answer of `classify_with_provenance`.
-#[derive(Drop)]
+#[derive(Clone, Copy)]
 pub enum DecisionAnswer {
     Decided(OriginDecision),
     Refused(Refusal),
 }
 
 // The answer of `classify`.
-#[derive(Drop)]
+#[derive(Clone, Copy)]
 pub enum OriginAnswer {
     Known(Origin),
     Refused(Refusal),

@@ -13,7 +13,7 @@ use strips::suffix::suffix_rests;
 use tables::origins::Origin;
 
 // What a sheet says of a name: its origin tag, that it is a headword without one, or neither.
-#[derive(Drop)]
+#[derive(Clone, Copy)]
 pub enum Known {
     Tagged(Origin),
     Headword,

@@ -1,4 +1,6 @@
 // Where a word comes from: the classification of the source's origin.rs, with how it is known and how surely.
+#![tactic(auto)]
+
 ghost use Rattle.std.specs.Prelude.{◌≡◌};
 ghost use Rattle.sheet.specs.Replies.{reply, Indexed};
 ghost use Rattle.tables.specs.Origins.{origin_of};
@@ -16,7 +18,7 @@ pub mod marks;
 mod quick;
 
 // How an origin is known.
-#[derive(Drop)]
+#[derive(Clone, Copy)]
 pub enum OriginSource {
     Override,
     Kosha,
@@ -25,7 +27,7 @@ pub enum OriginSource {
 }
 
 // An origin, how it is known, and how surely.
-#[derive(Drop)]
+#[derive(Clone, Copy)]
 pub struct OriginDecision {
     pub origin: Origin,
     pub source: OriginSource,

@@ -32,7 +32,7 @@ use Rattle.paths.specs.Support.{known_with, is_supported, score_of}
 use Rattle.paths.specs.Readings.{classified}
 use Rattle.paths.specs.Walk.{root_walk, over_forms, second_walk, stem_walk, rows_walk, piece_walk}
 use Rattle.analysis.specs.Answers.{said_of, rows_given}
-use Rattle.bytes.specs.Bytes.{index_after, index_of}
+use Rattle.runs.specs.Bytes.{index_after, index_of}
 use Rattle.writing.specs.Decimal.{digits_in, decimal}
 use Rattle.writing.specs.Refused.{refused_text}
 use Rattle.listing.specs.Texts.{segment_text, reading_text, row_text, listing_text}

@@ -31,7 +31,7 @@ use Rattle.analysis.specs.Answers.{said_of, rows_given}
 use Rattle.decomposition.specs.Strips.{is_word, label_row, least_root, is_kept, left_of, is_taken, strip_row, leaves_word}
 use Rattle.decomposition.specs.Parts.{behind_front, decomposed_of, morpheme_of}
 use Rattle.decomposition.specs.Answers.{morpheme_answer}
-use Rattle.bytes.specs.Bytes.{index_after, index_of}
+use Rattle.runs.specs.Bytes.{index_after, index_of}
 use Rattle.writing.specs.Decimal.{digits_in, decimal}
 use Rattle.listing.specs.Texts.{segment_text, reading_text, row_text, listing_text}
 use Rattle.listing.specs.Printed.{readings_text, printed}

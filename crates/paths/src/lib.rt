@@ -1,5 +1,7 @@
 // Paths of a word and their readings, said without a search, and the order in which a walk finds them: definitions and theorems.
 // The items of code are what the walk carries, and how many rows and strips there are.
+#![tactic(auto)]
+
 use ranking::Segment;
 
 // The rows of suffix texts and of prefix forms, and how many of each a path strips at most.
@@ -10,14 +12,14 @@ pub const FORMS: u8 = 30;
 pub const STRIPS: u8 = 4;
 
 // The suffixes stripped so far: nearest the stem first, places that are not used are blank.
-#[derive(Drop)]
+#[derive(Clone, Copy)]
 pub struct Chain {
     pub segments: [Segment; 4],
     pub count: u8,
 }
 
 // The prefix rows stripped so far: outermost first, places that are not used are 0.
-#[derive(Drop)]
+#[derive(Clone, Copy)]
 pub struct Prefixes {
     pub rows: [u8; 2],
     pub count: u8,
@@ -25,7 +27,7 @@ pub struct Prefixes {
 
 // Where the walk is: at the piece that is the word's first `end` bytes, with the suffixes stripped behind it; of it, the first `rows`
 // rows may be stripped next. So many `times` the source's strips lead to it.
-#[derive(Drop)]
+#[derive(Clone, Copy)]
 pub struct Piece {
     pub end: usize,
     pub chain: Chain,
@@ -34,7 +36,7 @@ pub struct Piece {
 }
 
 // What the walk hands back: how many readings are kept, and how many entries of the source's walk were counted.
-#[derive(Drop)]
+#[derive(Clone, Copy)]
 pub struct Tally {
     pub kept: usize,
     pub visits: usize,

@@ -12,14 +12,14 @@ use sheet::inputs::Inputs;
 use sheet::limits::{ALL_STARTS, FEW_STARTS, SMALL_BYTES};
 
 // What the analysis gives: why word or sheet is refused, or what was found.
-#[derive(Drop)]
+#[derive(Clone, Copy)]
 pub enum Answer {
     Refused(Refusal),
     Given(Progressive),
 }
 
 // The answer of `has_supported_progressive_form`.
-#[derive(Drop)]
+#[derive(Clone, Copy)]
 pub enum Supported {
     Refused(Refusal),
     Given(bool),

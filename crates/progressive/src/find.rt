@@ -13,7 +13,7 @@ use runs::{begins_with, ends_with};
 
 // A progressive form: the main form is the word up to byte `main_end`, its न with it, and the auxiliary is the rest; the lemma's
 // name stands in its `w` line, `lemma_len` bytes from byte `lemma_at` of the sheet on. All is 0 and false for none.
-#[derive(Drop)]
+#[derive(Clone, Copy)]
 pub struct Progressive {
     pub found: bool,
     pub main_end: usize,

@@ -1,4 +1,6 @@
 // Readings of a word, and their list by value: at most 64, in rank order.
+#![tactic(auto)]
+
 pub mod kept;
 pub mod rows;
 
@@ -17,7 +19,7 @@ use tables::origins::Origin;
 pub const LIMIT: usize = 64;
 
 // The kind of a suffix.
-#[derive(Drop)]
+#[derive(Clone, Copy)]
 pub enum AffixKind {
     Particle,
     CaseMarker,
@@ -27,7 +29,7 @@ pub enum AffixKind {
 }
 
 // A suffix: its row in the table of the 25 texts, its kind, and whether its first letter is shared with what stands before it.
-#[derive(Drop)]
+#[derive(Clone, Copy)]
 pub struct Segment {
     pub label: u8,
     pub kind: AffixKind,
@@ -37,7 +39,7 @@ pub struct Segment {
 // A reading of a word: the stem is the word's first `stem` bytes, and the root what stands in the stem from byte `root` on; prefix
 // labels by their rows, outermost first; suffix segments, nearest the stem first; places that are not used are 0. The fields stand
 // so that no gap lies between them: a list of 64 is copied often.
-#[derive(Drop)]
+#[derive(Clone, Copy)]
 pub struct Reading {
     pub stem: u16,
     pub root: u16,
@@ -49,7 +51,7 @@ pub struct Reading {
 }
 
 // A reading as it is handed out: with its root's origin, how that is known, and how surely. Here too no gap lies between the fields.
-#[derive(Drop)]
+#[derive(Clone, Copy)]
 pub struct Classified {
     pub reading: Reading,
     pub origin: Origin,
@@ -58,7 +60,7 @@ pub struct Classified {
 }
 
 // A list of readings: the first `count` rows.
-#[derive(Drop)]
+#[derive(Clone, Copy)]
 pub struct Listing {
     pub rows: [Classified; LIMIT],
     pub count: usize,

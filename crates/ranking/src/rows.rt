@@ -8,7 +8,6 @@ ghost use Rattle.ranking.specs.Stored.{kind_number, mark_number, kind_at, two_at
 ghost use Rattle.ranking.specs.Kept.{rows_in, kept_bytes};
 
 use crate::{AffixKind, LIMIT, Reading, Segment};
-use bytes::copy;
 
 pub const WIDTH: usize = 22;
 
@@ -119,7 +118,7 @@ pub fn put_reading(r: Reading, out: &mut [u8])
         r.prefix_count,
         r.suffix_count,
     ];
-    copy(&all, out);
+    out.copy_from_slice(&all);
 }
 
 // The segment that stands from the i-th byte on.

@@ -1,5 +1,7 @@
 // Document 01's program: standard input is the word up to the first 0A, then the sheet; printed is the list of the word's readings, or
 // one line with the number of the refusal. An input is read one byte past the limit, so that too long a one is told from the longest.
+#![tactic(auto)]
+
 use libc::{STDIN_FILENO, STDOUT_FILENO};
 use listing::whole::answer_of;
 

@@ -1,5 +1,7 @@
 // Document 02 (k)'s program: standard input is a sheet; printed is the report of what its lines refer to, or one line with the number of
 // the refusal. The sheet is read one byte past its limit, so that too long a one is told from the longest.
+#![tactic(auto)]
+
 use libc::{STDIN_FILENO, STDOUT_FILENO};
 use referred::whole::answer_of;
 

@@ -1,10 +1,12 @@
 // Why an entry gives no answer, for every entry: the causes, and the number of each with the place that comes with it.
+#![tactic(auto)]
+
 ghost use Rattle.std.specs.Prelude.{◌≡◌};
 ghost use Rattle.refusals.specs.Refusals.{numbers_of, numbers_told};
 
 // The causes of document 01's table, in its order; for a faulty line, with its first byte. Then those of document 02: of a text and a list
 // of tokens (a), of a line that is put or withdrawn (c). `numbers_of` gives the number of each.
-#[derive(Drop)]
+#[derive(Clone, Copy)]
 pub enum Refusal {
     WordTooLong,
     WordNotUtf8,
@@ -23,14 +25,14 @@ pub enum Refusal {
 }
 
 // What an entry that is lent an output hands back: how much was written, or why nothing was.
-#[derive(Drop)]
+#[derive(Clone, Copy)]
 pub enum Written {
     Wrote(usize),
     Refused(Refusal),
 }
 
 // The number of a refusal, alone or with a place.
-#[derive(Drop)]
+#[derive(Clone, Copy)]
 pub enum Numbers {
     Number(usize),
     Placed(usize, usize),

@@ -1,5 +1,7 @@
 // Replays the oracle's fixed list of acceptance answers (oracle/fixed/acceptance.cases, the file stdin beside src) and writes one
 // line a case, which must be the oracle's (acceptance.answers, the file stdout): 0, a number, or a number and a line's first byte.
+#![tactic(auto)]
+
 use blocks::case_at;
 use libc::{STDIN_FILENO, STDOUT_FILENO};
 use sheet::check::SheetCheck;

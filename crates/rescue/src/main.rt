@@ -1,6 +1,8 @@
 // Document 02 (m)'s program: standard input is a torn sheet; the kept one goes to standard output, the report to standard error. A sheet
 // over its limit is refused on standard error, with nothing on standard output. The report is written part by part, since it can be far
 // longer than the sheet.
+#![tactic(auto)]
+
 ghost use Rattle.std.specs.Prelude.{◌≤◌, ◌<◌, length};
 ghost use Rattle.sheet.specs.Limits.{sheet_limit};
 ghost use Rattle.sheet.specs.Walks.{Standing};

@@ -17,9 +17,9 @@ use Rattle.rescued.specs.declared.entry.Rescued.TheVariants as rescued
 use Rattle.rescued.specs.Stretches.{kept_of, report_of}
 use Rattle.rescued.specs.Answers.{rescued_of, kept_left, report_left}
 
-and_false : (b : Bool) → (b && false) ≡ false
-and_false true = refl
-and_false false = refl
+and-false : (b : Bool) → (b && false) ≡ false
+and-false true = refl
+and-false false = refl
 
 -- a text put whole at the front of a buffer
 pub front-put : {old new text : List ℕ} {next : ℕ} → Wrote old new 0 next text → length text ≤ length old → length old < largest → new ≡ text ++ drop (length text) old
@@ -46,7 +46,7 @@ module _ (s kept report : List ℕ) where
     unfolding rescued_of kept_left report_left
     short_report h =
         let q = n.end in
-        (sym (rw (le-ltb _ _ l, lt-leb (length (report_of s)) (length report) (omega arith), and_false (leb (length (kept_of s)) (length kept)))), refl, refl)
+        (sym (rw (le-ltb _ _ l, lt-leb (length (report_of s)) (length report) (omega arith), and-false (leb (length (kept_of s)) (length kept)))), refl, refl)
 
     pub both : {a b : List ℕ} {i j : ℕ} → z.kept ≤ length kept → z.report ≤ length report → length kept < largest → length report < largest
         → Wrote kept a 0 i (kept_of s) → Wrote report b 0 j (report_of s)

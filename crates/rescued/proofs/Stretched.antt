@@ -9,7 +9,7 @@ use lib.ListN.{length, take, drop, get_or, length-append, length-drop}
 use lib.Seq.{drop-cons, drop-drop, take-length}
 use lib.Dec.{eqb, leb, ltb}
 use borrow.Author.Tests.{leb-true, ltb-true, ltb-false, lt-leb}
-use Rattle.bytes.specs.Bytes.{index_of, index_after, slice}
+use Rattle.runs.specs.Bytes.{index_of, index_after, slice}
 use Rattle.runs.specs.Runs.{pick, cmp, is_less}
 use Rattle.sheet.specs.Forms.{is_form, key}
 use Rattle.sheet.specs.Lines.{starts_from, line_at}

@@ -1,6 +1,6 @@
 -- The walk over the stretches by places. Assumes nothing.
 use Rattle.std.specs.Prelude.{ℕ, ◌+◌, ◌≤◌, ◌<◌, min, ◌≡◌, List, [], ◌∷◌, length, drop}
-use Rattle.bytes.specs.Bytes.{index_of}
+use Rattle.runs.specs.Bytes.{index_of}
 use Rattle.sheet.specs.Walks.{key_before, Standing, starts_ahead}
 use Rattle.sheet.specs.declared.walk.Walk.{Walk}
 use Rattle.rescued.specs.declared.walk.Reach.{Reach}

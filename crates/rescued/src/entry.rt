@@ -10,14 +10,14 @@ use sheet::limits::SHEET_BYTES;
 use sheet::walk::{Before, Walk};
 
 // How many bytes the kept sheet and the report have.
-#[derive(Drop)]
+#[derive(Clone, Copy)]
 pub struct Sizes {
     pub kept: usize,
     pub report: usize,
 }
 
 // What `rescue_sheet` hands back: how much it wrote into each buffer, or why nothing was.
-#[derive(Drop)]
+#[derive(Clone, Copy)]
 pub enum Rescued {
     Wrote(Sizes),
     Refused(Refusal),

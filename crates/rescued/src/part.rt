@@ -11,7 +11,7 @@ use crate::walk::{next_stretch, put_cut};
 use sheet::walk::Walk;
 
 // How much of the report was written, and where it goes on.
-#[derive(Drop)]
+#[derive(Clone, Copy)]
 pub struct Part {
     pub walk: Walk,
     pub size: usize,

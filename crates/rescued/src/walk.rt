@@ -6,12 +6,12 @@ ghost use Rattle.rescued.specs.Stretches.{cut_line, kept_text};
 ghost use Rattle.rescued.specs.Places.{line_end, Stepped};
 
 use crate::Fate;
-use bytes::scan::find;
+use runs::find;
 use sheet::walk::{Reached, Walk};
 use writing::{put, put_decimal};
 
 // A stretch that was reached: what becomes of it, and the walk from behind it, which begins where it ends.
-#[derive(Drop)]
+#[derive(Clone, Copy)]
 pub(crate) struct Reach {
     pub fate: Fate,
     pub next: Walk,

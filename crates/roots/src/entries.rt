@@ -16,14 +16,14 @@ use sheet::limits::{ALL_STARTS, FEW_STARTS, SMALL_BYTES};
 use tables::origins::Origin;
 
 // The answer of `lookup_root_candidates`: what is said of word and sheet, and the candidates where both are accepted.
-#[derive(Drop)]
+#[derive(Clone, Copy)]
 pub struct RootsAnswer {
     pub inputs: Inputs,
     pub roots: Roots,
 }
 
 // The answer of `best_root`: what is said of word and sheet, whether there is a candidate, and the first.
-#[derive(Drop)]
+#[derive(Clone, Copy)]
 pub struct BestRoot {
     pub inputs: Inputs,
     pub found: bool,
@@ -31,7 +31,7 @@ pub struct BestRoot {
 }
 
 // The answer of `has_known_root`.
-#[derive(Drop)]
+#[derive(Clone, Copy)]
 pub enum KnownAnswer {
     Known(bool),
     Refused(Refusal),

@@ -1,4 +1,6 @@
 // Root candidates of a word: roots that the sheet knows, with the labels stripped to reach them, in rank order.
+#![tactic(auto)]
+
 ghost use Rattle.std.specs.Prelude.{◌≡◌, ◌≤◌, length};
 ghost use Rattle.sheet.specs.Replies.{reply, Indexed};
 ghost use Rattle.tables.specs.Rows.{suffixes, prefix_labels, prefix_forms};
@@ -18,7 +20,7 @@ pub mod offers;
 pub mod order;
 
 // A candidate: its root and labels, the origin of the root, whether the sheet knows the root by w and by h, and its score.
-#[derive(Drop)]
+#[derive(Clone, Copy)]
 pub struct RootCandidate {
     pub score: u16,
     pub parts: Parts,
@@ -28,7 +30,7 @@ pub struct RootCandidate {
 }
 
 // A list of candidates: the first `count` rows.
-#[derive(Drop)]
+#[derive(Clone, Copy)]
 pub struct Roots {
     pub rows: [RootCandidate; 16],
     pub count: usize,

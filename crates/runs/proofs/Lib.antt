@@ -1,3 +1,4 @@
 pub mod Ordered
 pub mod Begins
 pub mod Ends
+pub mod Spots

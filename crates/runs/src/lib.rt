@@ -1,10 +1,13 @@
 // Runs of bytes compared in place: equal, in order, at the front, at the end.
 // Nothing is copied and nothing is joined. Every crate above compares texts by these alone.
-ghost use Rattle.std.specs.Prelude.{◌≡◌};
+#![tactic(auto)]
+
+ghost use Rattle.std.specs.Prelude.{◌≡◌, ◌+◌, ◌≤◌, length};
 ghost use Rattle.runs.specs.Runs.{same_text, cmp, begins_with, ends_in};
+ghost use Rattle.runs.specs.Bytes.{index_of, slice};
 
 // How a run of bytes stands to another, by exact bytes.
-#[derive(Drop)]
+#[derive(Clone, Copy)]
 pub enum Order {
     Less,
     Equal,
@@ -78,4 +81,19 @@ pub fn ends_with(s: &[u8], tail: &[u8]) -> bool
         }
     }
     true
+}
+
+// The place of the first byte b of s from `from` on, up to `to`, or `to` where there is none.
+pub fn find(s: &[u8], from: usize, to: usize, b: u8) -> usize
+    requires { (from ≤ to) × (to ≤ length s.now) }
+    ensures { (result ≡ from + index_of b (slice from to s.now)) × (result ≤ to) }
+{
+    let mut i = from;
+    while i < to {
+        if s[i] == b {
+            return i;
+        }
+        i += 1;
+    }
+    to
 }

@@ -10,7 +10,7 @@ use lib.ListN.{length, take, drop, get_or, length-append, length-drop}
 use lib.Seq.{take-append_seam, drop-append-add, drop-drop, get_or-drop}
 use lib.Dec.{eqb, ltb, leb}
 use borrow.Author.Tests.{ne_eqb, ltb-true, not-true}
-use Rattle.bytes.specs.Bytes.{index_of, index_after}
+use Rattle.runs.specs.Bytes.{index_of, index_after}
 use Rattle.runs.specs.Runs.{pick, begins_with, ends_in}
 use Rattle.runs.proofs.Begins.{and_left, and_right, begins-front}
 use Rattle.text.specs.Utf8.{is_utf8}

@@ -3,7 +3,7 @@
 use Prim.Native.Nat.{ℕ, zero, suc, ◌-◌, ◌<◌, ◌≤◌}
 use native.Mathlib.Omega.{arith}
 use mathlib.Core.Path.{◌≡◌, refl, sym, ap, ◌∙◌}
-use mathlib.Core.Bool.{Bool, true, false, not, ◌&&◌, ◌||◌, and-true, and_false}
+use mathlib.Core.Bool.{Bool, true, false, not, ◌&&◌, ◌||◌, and-true, and-false}
 use mathlib.Core.List.{List, [], ◌∷◌}
 use lib.ListN.{length, drop, length-drop}
 use lib.Dec.{leb, eqb}
@@ -53,14 +53,14 @@ unfolding is_letters letters_of well_kept
 letters-kept v = refl
 
 lost : (c k : Bool) → k ≡ false → (c && k) ≡ false
-lost c k e = ap (λ (x : Bool). c && x) e ∙ and_false c
+lost c k e = ap (λ (x : Bool). c && x) e ∙ and-false c
 
 -- w stands alone: nothing may follow it
 left_over : (c v p e t : Bool) → (v ≡ false → p ≡ false → e ≡ false → t ≡ false → c ≡ false) → (c && kept true false v p e t) ≡ false
-left_over c true p e t f = and_false c
-left_over c false true e t f = and_false c
-left_over c false false true t f = and_false c
-left_over c false false false true f = and_false c
+left_over c true p e t f = and-false c
+left_over c false true e t f = and-false c
+left_over c false false true t f = and-false c
+left_over c false false false true f = and-false c
 left_over c false false false false f = ap (λ (y : Bool). y && true) (f refl refl refl refl)
 
 nothing_else : (x : List ℕ) → (closes (after_head x) && kept_after true false x) ≡ eqb (length x) 0

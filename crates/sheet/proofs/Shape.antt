@@ -3,7 +3,7 @@
 use Prim.Native.Nat.{ℕ, zero, suc, ◌+◌, ◌-◌, ◌<◌, ◌≤◌}
 use native.Mathlib.Omega.{arith}
 use mathlib.Core.Path.{◌≡◌, refl, sym, ap, subst, ◌∙◌}
-use mathlib.Core.Bool.{Bool, true, false, ◌&&◌, and-true, and_false}
+use mathlib.Core.Bool.{Bool, true, false, ◌&&◌, and-true, and-false}
 use mathlib.Core.List.{List, [], ◌∷◌, ◌++◌}
 use lib.ListN.{length, take, drop, get_or, length-drop, length-append}
 use lib.Seq.{drop-drop, take_all}
@@ -68,11 +68,11 @@ module _ (t : List ℕ) where
 
   pub unnamed : is_name (entry_of t).name ≡ false → is_form t ≡ false
   unfolding is_form
-  unnamed e = rw (e, and_false)
+  unnamed e = rw (e, and-false)
 
   pub unmeant : is_meant (entry_of t) ≡ false → is_form t ≡ false
   unfolding is_form
-  unmeant e = rw (e, and_false)
+  unmeant e = rw (e, and-false)
 
   pub formed : begins_with (written (entry_of t)) t ≡ true → is_name (entry_of t).name ≡ true → is_meant (entry_of t) ≡ true → is_form t ≡ true
   unfolding is_form
@@ -83,10 +83,10 @@ lost_first : (x a r : Bool) → x ≡ (a && r) → a ≡ false → x ≡ false
 lost_first x a r e f = e ∙ rw f
 
 lost_second : (x a b c : Bool) → x ≡ (a && (b && c)) → b ≡ false → x ≡ false
-lost_second x a b c e f = e ∙ rw (f, and_false)
+lost_second x a b c e f = e ∙ rw (f, and-false)
 
 lost_third : (x a b c : Bool) → x ≡ (a && (b && c)) → c ≡ false → x ≡ false
-lost_third x a b c e f = e ∙ rw (f, and_false, and_false)
+lost_third x a b c e f = e ∙ rw (f, and-false, and-false)
 
 all_three : (x a b c : Bool) → x ≡ (a && (b && c)) → a ≡ true → b ≡ true → c ≡ true → x ≡ true
 all_three x a b c e p q r = e ∙ rw (p, q, r)

@@ -1,7 +1,7 @@
 -- How a line's key stands to a question's (document 01, "The sheet": lines ascend by first letter, then by the name's bytes).
 -- Assumes nothing.
 use Rattle.std.specs.Prelude.{ℕ, List, [], ◌∷◌, take, ltb}
-use Rattle.bytes.specs.Bytes.{index_of}
+use Rattle.runs.specs.Bytes.{index_of}
 use Rattle.runs.specs.Runs.{pick}
 use Rattle.runs.specs.declared.Order.{Order}
 use Rattle.runs.specs.declared.Order.TheVariants.{Less, Equal, Greater}

@@ -7,7 +7,7 @@ use crate::walk::{Before, Reached, Walk};
 
 // A sheet is accepted, or refused: over 65,536 bytes (4), or by its first faulty line, with that line's first byte: no form (5),
 // or a form not above the one before (6).
-#[derive(Drop)]
+#[derive(Clone, Copy)]
 pub enum SheetCheck {
     Accepted,
     TooLong,

@@ -2,7 +2,7 @@
 use refusals::Refusal;
 
 // What is said of a word and a sheet together: both are accepted, or one is refused.
-#[derive(Drop)]
+#[derive(Clone, Copy)]
 pub enum Inputs {
     Accepted,
     Refused(Refusal),

@@ -3,7 +3,7 @@ ghost use Rattle.std.specs.Prelude.{◌≡◌, ◌+◌, ◌≤◌, length, drop,
 ghost use Rattle.sheet.specs.Letters.{has, past, tag_of, is_tagged, letters_of, closes, is_letters};
 
 // The origin tag of a headword.
-#[derive(Drop)]
+#[derive(Clone, Copy)]
 pub enum Tag {
     Untagged,
     Tatsam,
@@ -13,7 +13,7 @@ pub enum Tag {
 }
 
 // What a `w` line says of its name.
-#[derive(Drop)]
+#[derive(Clone, Copy)]
 pub struct Letters {
     pub word: bool,
     pub head: bool,

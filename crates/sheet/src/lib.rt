@@ -1,4 +1,6 @@
 // The sheet of the lexicon's answers: its forms, its lines and their order, and whether it is accepted, alone or with a word.
+#![tactic(auto)]
+
 pub mod check;
 pub mod inputs;
 pub mod keys;

@@ -7,7 +7,7 @@ ghost use Rattle.sheet.specs.Steps.{head_of, name_end, value_end, step_at};
 
 use crate::letters::are_letters;
 use crate::name::{is_name, read_name, run_end};
-use bytes::scan::find;
+use runs::find;
 use runs::{begins_with, ends_with, same};
 
 // The first letter of the form whose head stands at the front of t, 0 where none does.
@@ -88,14 +88,14 @@ pub fn value_end(s: &[u8], at: usize, end: usize) -> usize
 }
 
 // A place in the sheet at which a line begins.
-#[derive(Drop)]
+#[derive(Clone, Copy)]
 pub struct Cursor {
     pub at: usize,
 }
 
 // What stands at a cursor: a form, with its first letter (k, l or w), the ends of its first name and of its value and the next line's
 // cursor; a line that is no form; or the sheet's end.
-#[derive(Drop)]
+#[derive(Clone, Copy)]
 pub enum Line {
     Form {
         letter: u8,

@@ -12,7 +12,7 @@ use text::names::is_forbidden;
 use text::utf8::{State, is_utf8, is_whole, next};
 
 // The bytes up to the first one that no name holds: where they end, and whether they are a name.
-#[derive(Drop)]
+#[derive(Clone, Copy)]
 pub struct NameRead {
     pub end: usize,
     pub good: bool,

@@ -10,14 +10,14 @@ use crate::line::{Cursor, Line};
 use runs::Order;
 
 // The line before: none before the first, else the place at which it begins.
-#[derive(Drop)]
+#[derive(Clone, Copy)]
 pub enum Before {
     Nothing,
     At(usize),
 }
 
 // A place in the sheet at which a line begins, and the last line that the next one must be above.
-#[derive(Drop)]
+#[derive(Clone, Copy)]
 pub struct Walk {
     pub at: usize,
     pub last: Before,
@@ -25,7 +25,7 @@ pub struct Walk {
 
 // What a step reaches: a form above the last, with its first letter, the ends of its name and of its value, and the walk from behind it; a
 // form that is not above the last; a line that is no form; or the sheet's end.
-#[derive(Drop)]
+#[derive(Clone, Copy)]
 pub enum Reached {
     Form {
         letter: u8,

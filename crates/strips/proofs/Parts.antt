@@ -31,9 +31,9 @@ sound [] = true
 sound ([] ∷ rows) = sound rows
 sound ((r ∷ rs) ∷ rows) = (ltb r.high 0x80 || ltb 0xBF r.low) && (all_in_tail rs && sound rows)
 
-and_false : (a : Bool) → (a && false) ≡ false
-and_false true = refl
-and_false false = refl
+and-false : (a : Bool) → (a && false) ≡ false
+and-false true = refl
+and-false false = refl
 
 pick_steady : (b : Bool) (rs : List Range) (o : Owed) → all_in_tail rs ≡ true → steady o ≡ true → steady (pick b (owes rs) o) ≡ true
 pick_steady true rs o p q = p
@@ -111,7 +111,7 @@ outside r b t l h = go (ltb r.high 0x80) refl t
     go : (u : Bool) → ltb r.high 0x80 ≡ u → (u || ltb 0xBF r.low) ≡ true → (leb r.low b && leb b r.high) ≡ false
     go true e f =
         let k = ltb-true r.high 0x80 e in
-        rw (lt-leb b r.high (omega arith)) (and_false (leb r.low b))
+        rw (lt-leb b r.high (omega arith)) (and-false (leb r.low b))
     go false e f =
         let k = ltb-true 0xBF r.low f in
         rw (lt-leb r.low b (omega arith))

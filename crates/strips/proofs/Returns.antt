@@ -40,9 +40,9 @@ goes_end t i h = rw (drop_of_length-le t h)
 
 -- Whether the piece sheds the suffix, and whether that has more than one character.
 
-and_false : (a b : Bool) → b ≡ false → (a && b) ≡ false
-and_false true b e = e
-and_false false b e = refl
+and-false : (a b : Bool) → b ≡ false → (a && b) ≡ false
+and-false true b e = e
+and-false false b e = refl
 
 pub sheds-short : (piece suffix : List ℕ) → length piece ≤ length suffix → sheds piece suffix ≡ false
 unfolding sheds
@@ -50,7 +50,7 @@ sheds-short piece suffix h = rw (le-ltb (length suffix) (length piece) h)
 
 pub sheds_other : (piece suffix : List ℕ) → ends_in suffix piece ≡ false → sheds piece suffix ≡ false
 unfolding sheds
-sheds_other piece suffix e = and_false (ltb (length suffix) (length piece)) (ends_in suffix piece) e
+sheds_other piece suffix e = and-false (ltb (length suffix) (length piece)) (ends_in suffix piece) e
 
 pub sheds_true : (piece suffix : List ℕ) → length suffix < length piece → ends_in suffix piece ≡ true → sheds piece suffix ≡ true
 unfolding sheds
@@ -86,7 +86,7 @@ leaves_other piece form e = rw e
 pub leaves-few : (piece form : List ℕ) → chars (drop (length form) piece) < least_after form → leaves piece form ≡ false
 unfolding leaves
 leaves-few piece form h =
-    and_false (begins_with form piece) (leb (least_after form) (chars (drop (length form) piece))) (lt-leb (least_after form) (chars (drop (length form) piece)) h)
+    and-false (begins_with form piece) (leb (least_after form) (chars (drop (length form) piece))) (lt-leb (least_after form) (chars (drop (length form) piece)) h)
 
 pub leaves_true : (piece form : List ℕ) → begins_with form piece ≡ true → least_after form ≤ chars (drop (length form) piece) → leaves piece form ≡ true
 unfolding leaves
@@ -100,7 +100,7 @@ keeps_no_pronoun pronoun spelled suffix p = rw p
 
 pub keeps_spelled : (pronoun spelled : Bool) (suffix : List ℕ) → spelled ≡ true → false ≡ keeps_pronoun pronoun spelled suffix
 unfolding keeps_pronoun
-keeps_spelled pronoun spelled suffix e = sym (and_false pronoun (not spelled && is_ii suffix) (rw e))
+keeps_spelled pronoun spelled suffix e = sym (and-false pronoun (not spelled && is_ii suffix) (rw e))
 
 pub keeps_first : (pronoun spelled : Bool) (suffix : List ℕ) → pronoun ≡ true → spelled ≡ false → same_text suffix letter_ii ≡ true
     → true ≡ keeps_pronoun pronoun spelled suffix

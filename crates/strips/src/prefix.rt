@@ -4,7 +4,7 @@ ghost use Rattle.std.specs.Prelude.{◌≡◌};
 ghost use Rattle.strips.specs.Prefix.{least_after, rest_of};
 
 // What is left of the piece: nothing that counts, or all from a byte on.
-#[derive(Drop)]
+#[derive(Clone, Copy)]
 pub enum Rest {
     Nothing,
     From(usize),

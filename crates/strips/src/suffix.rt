@@ -4,7 +4,7 @@ ghost use Rattle.std.specs.Prelude.{◌≡◌, ◌≤◌, length};
 ghost use Rattle.strips.specs.Suffix.{first_length, rests_of, keeps_pronoun};
 
 // How many remainders a piece has, and how many bytes of the piece each is: plain first, then shared; 0 for none.
-#[derive(Drop)]
+#[derive(Clone, Copy)]
 pub struct Rests {
     pub count: usize,
     pub plain: usize,

@@ -1,5 +1,7 @@
 // The tables of the source. Each is named once, high up in the code, kept in a local and lent down as slices: its bytes and its
 // starts, from which `row` cuts one text.
+#![tactic(auto)]
+
 ghost use Rattle.std.specs.Prelude.{◌≡◌, ◌+◌, ◌<◌, length};
 ghost use Rattle.tables.specs.Rows.{prefix_labels, prefix_forms, suffixes, strip_suffixes, origin_words, origin_tags};
 ghost use Rattle.tables.specs.Tables.{joined, places, Cuts, row_at, affixes};

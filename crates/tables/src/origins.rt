@@ -8,7 +8,7 @@ ghost use Rattle.tables.specs.Origins.{tagged_by, letters, origin_of};
 use runs::Order;
 
 // Where a word comes from.
-#[derive(Drop)]
+#[derive(Clone, Copy)]
 pub enum Origin {
     Tatsam,
     Tadbhav,
@@ -17,7 +17,7 @@ pub enum Origin {
 }
 
 // What ORIGIN_TABLE says of a word.
-#[derive(Drop)]
+#[derive(Clone, Copy)]
 pub enum OriginFound {
     Listed(Origin),
     Unlisted,

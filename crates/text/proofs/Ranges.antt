@@ -1,7 +1,7 @@
 -- When a byte lies in a range of RFC 3629's grammar. The proofs of `open`, `next` and `opens_one` cite these. Assumes nothing.
 use Prim.Native.Nat.{ℕ, ◌≤◌, ◌<◌}
 use mathlib.Core.Path.{◌≡◌, refl}
-use mathlib.Core.Bool.{Bool, true, false, ◌&&◌, and_false}
+use mathlib.Core.Bool.{Bool, true, false, ◌&&◌, and-false}
 use lib.Dec.{leb}
 use borrow.Author.Tests.{le-leb, lt-leb}
 use Rattle.text.specs.Utf8.{Range, within}
@@ -16,4 +16,4 @@ below r b h = rw (lt-leb _ _ h)
 
 pub above : (r : Range) (b : ℕ) → r.high < b → within r b ≡ false
 unfolding within
-above r b h = rw (lt-leb _ _ h) (and_false (leb r.low b))
+above r b h = rw (lt-leb _ _ h) (and-false (leb r.low b))

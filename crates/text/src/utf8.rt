@@ -1,11 +1,11 @@
 // UTF-8 as RFC 3629 has it, one byte at a time.
 ghost use Rattle.std.specs.Prelude.{◌≡◌};
 ghost use Rattle.runs.specs.Runs.{pick};
-ghost use Rattle.text.specs.Utf8.{from-to, within, misfit, opened, utf8_char, after, whole, is_utf8};
+ghost use Rattle.text.specs.Utf8.{from_to, within, misfit, opened, utf8_char, after, whole, is_utf8};
 ghost use Rattle.text.specs.Owes.{owed_of};
 
 // What is still owed of the character that has begun. A named range is that of the next byte; every later one is 80 to BF.
-#[derive(Drop)]
+#[derive(Clone, Copy)]
 pub enum State {
     Nothing,
     One,
@@ -57,7 +57,7 @@ pub fn open(b: u8) -> State
 
 // `then` where b lies from low to high.
 fn held(b: u8, low: u8, high: u8, then: State) -> State
-    ensures { owed_of result ≡ pick (within (from-to low high) b) (owed_of then) misfit }
+    ensures { owed_of result ≡ pick (within (from_to low high) b) (owed_of then) misfit }
 {
     if b < low {
         return State::Misfit;

@@ -6,7 +6,7 @@ use crate::names::holds_forbidden;
 use crate::utf8::is_utf8;
 
 // A word is accepted, or refused: over 192 bytes (1), not UTF-8 (2), with a forbidden byte (3).
-#[derive(Drop)]
+#[derive(Clone, Copy)]
 pub enum WordCheck {
     Accepted,
     TooLong,

@@ -1,4 +1,6 @@
 // Words out of running text: the tokens of a text, by their first byte and the byte behind their last.
+#![tactic(auto)]
+
 ghost use Rattle.std.specs.Prelude.{◌≡◌, ◌≤◌, length};
 ghost use Rattle.std.proofs.Math.Seq.{paste};
 ghost use Rattle.tokenizer.specs.Answers.{tokenized, listed};

@@ -8,7 +8,7 @@ use crate::parting::{ascii_parts, is_devanagari, is_parting};
 use text::utf8::{is_whole, next, open};
 
 // How many bytes a character has, 0 where none stands; whether it parts; whether it is one of U+0900 to U+097F.
-#[derive(Drop)]
+#[derive(Clone, Copy)]
 pub(crate) struct Seen {
     pub(crate) size: usize,
     pub(crate) parting: bool,

@@ -8,7 +8,7 @@ ghost use Rattle.tokenizer.specs.Stored.{stored, Ended};
 use crate::seen::look;
 
 // Whether the text is UTF-8, and how many tokens were passed.
-#[derive(Drop)]
+#[derive(Clone, Copy)]
 pub(crate) struct Walked {
     pub(crate) whole: bool,
     pub(crate) count: usize,

@@ -1,6 +1,8 @@
 // Request (a)'s program: standard input is a text; printed is a line with the number of its tokens, then a line for each with its first
 // byte and the byte behind its last, or one line with the number of the refusal. The text is read one byte past the limit, so that too
 // long a one is told from the longest.
+#![tactic(auto)]
+
 use libc::{STDIN_FILENO, STDOUT_FILENO};
 
 pub mod lines;

@@ -13,7 +13,7 @@ use sheet::inputs::Inputs;
 use writing::{put, put_decimal, put_numbers};
 
 // A stretch done: so many bytes of a word are kept, and so many were printed.
-#[derive(Drop)]
+#[derive(Clone, Copy)]
 pub struct Stretch {
     pub kept: usize,
     pub size: usize,

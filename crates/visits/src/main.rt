@@ -2,6 +2,8 @@
 // a line for each with the number of pieces visited, or with its refusal; for a refused sheet its refusal alone. The sheet is checked
 // once. Words are read stretch by stretch, and a sheet one byte past the limit, so that too long a one is told from the longest. A path
 // that can't be read is told on standard error, and then nothing is printed: no program here can hand back a status.
+#![tactic(auto)]
+
 ghost use Rattle.sheet.specs.Replies.{Indexed};
 
 use crate::lines::{print_last, print_stretch};

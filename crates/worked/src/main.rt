@@ -1,6 +1,8 @@
 // Replays the oracle's fixed list of readings. The file stdin beside src is oracle/fixed/list.cases, and then a word of 192 bytes and one
 // of 193; for each case is printed what `readings` prints for its word and sheet, which must be the lines of oracle/fixed/list.answers that
 // begin with a parenthesis, and then what the oracle prints for the two words (the file stdout).
+#![tactic(auto)]
+
 use blocks::case_at;
 use libc::{STDIN_FILENO, STDOUT_FILENO};
 use listing::whole::readings_of;

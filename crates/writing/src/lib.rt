@@ -1,6 +1,8 @@
 // Texts put into a lent buffer one after the other. The place after a text is given also where it does not fit in: so one run on a buffer
 // without room tells how long a text is, and another writes it. Free: what stands in the buffer from the first place on where a text
 // does not fit in; an entry tests that first.
+#![tactic(auto)]
+
 ghost use Rattle.std.specs.Prelude.{◌≡◌, [], ◌∷◌, ◌+◌, ◌<◌, min};
 ghost use Rattle.writing.specs.Decimal.{digit, decimal};
 ghost use Rattle.refusals.specs.Refusals.{numbers_of, numbers_told};
@@ -27,7 +29,7 @@ pub fn put(out: &mut [u8], at: usize, text: &[u8]) -> usize
     if out.len() < end {
         return end;
     }
-    bytes::copy(text, &mut out[at..end]);
+    out[at..end].copy_from_slice(text);
     end
 }
 

@@ -2,7 +2,7 @@
 use borrow.Author.Rules.{rules}
 use borrow.Author.Tests.{eq-eqb, ne_eqb, not-true, not-false}
 use mathlib.Core.Path.{sym, ◌∙◌}
-use mathlib.Core.Bool.{and_false}
+use mathlib.Core.Bool.{and-false}
 use Rattle.sheet.specs.Forms.{is_meant}
 use Rattle.sheet.proofs.line.is_meant.Statement.{statement}
 use Rattle.sheet.proofs.line.is_meant.Tie as tie
@@ -30,7 +30,7 @@ returns-3 : tie.Need-returns-3
 unfolding is_meant
 returns-3 c =
     let d = c.before.before.before.before in
-    simp (ne_eqb _ _ d.before.if1.false, eq-eqb _ _ d.if2.true, sym c.before.is_name.ensures ∙ not-true _ c.if4.true, and_false)
+    simp (ne_eqb _ _ d.before.if1.false, eq-eqb _ _ d.if2.true, sym c.before.is_name.ensures ∙ not-true _ c.if4.true, and-false)
 
 slice-aggregate-ends-with : tie.Need-slice-aggregate-ends-with
 slice-aggregate-ends-with c = search rules

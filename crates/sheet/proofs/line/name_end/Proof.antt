@@ -5,7 +5,7 @@ use Prim.Native.Nat.{ℕ, ◌+◌}
 use native.Mathlib.Omega.{arith}
 use lib.ListN.{length, take, drop}
 use lib.Seq.{take-length}
-use Rattle.bytes.specs.Bytes.{index_of, slice}
+use Rattle.runs.specs.Bytes.{index_of, slice}
 use Rattle.sheet.proofs.Forms.{line-fits, name-ends}
 use Rattle.sheet.proofs.line.name_end.Statement.{statement}
 use Rattle.sheet.proofs.line.name_end.Tie as tie

@@ -1,0 +1,33 @@
+-- `text::utf8::is_utf8` meets its contract: the run over all bytes is the run over those to come, from the state reached. Assumes nothing.
+use Prim.Native.Nat.{◌-◌, ◌≤◌}
+use native.Mathlib.Omega.{arith}
+use mathlib.Core.Path.{◌≡◌, refl, sym, ap, ◌∙◌}
+use mathlib.Core.List.{[]}
+use lib.ListN.{length, drop}
+use Rattle.text.specs.Utf8.{Owed, owes, run, whole, is_utf8}
+use Rattle.text.specs.Owes.{owed_of}
+use Rattle.text.proofs.Scan.{run_next, run_end}
+use Rattle.text.proofs.utf8.is_utf8.Goals as goal
+
+pub loop-i-init : goal.loop-i-init
+loop-i-init c = (omega arith, refl)
+
+pub bounds-s-i : goal.bounds-s-i
+bounds-s-i c = omega arith
+
+pub overflow_add-i : goal.overflow_add-i
+overflow_add-i c = omega arith
+
+pub loop-i-smaller : goal.loop-i-smaller
+loop-i-smaller c = omega arith
+
+pub loop-i-preserved : goal.loop-i-preserved
+loop-i-preserved c =
+    let d = c in
+    (omega arith, d.loop-i.invariant.1 ∙ run_next d.args.s.now d.loop-i.i c.loop-i-test.true _ _ c.next-state.ensures)
+
+pub returns : goal.returns
+unfolding is_utf8
+returns c =
+    let d = c in
+    c.is_whole.ensures ∙ sym (ap whole (d.loop-i.invariant.1 ∙ run_end d.args.s.now d.loop-i.i c.loop-i-test.false _))

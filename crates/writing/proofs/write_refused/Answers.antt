@@ -1,0 +1,24 @@
+-- `write_refused` meets its contract: the first call tells the length, the second writes. Assumes nothing.
+use native.Mathlib.Omega.{arith}
+use mathlib.Core.Path.{refl, ap}
+use mathlib.Core.List.{List}
+use Prim.Native.Nat.{ℕ}
+use Rattle.writing.specs.Refused.{refused_text}
+use Rattle.writing.proofs.Puts.{put_as, written-whole, written-not}
+use borrow.Author.Rules.{rules}
+use Rattle.writing.proofs.write_refused.Goals as goal
+
+pub slice_bounds-put_numbers-end : goal.slice_bounds-put_numbers-end
+slice_bounds-put_numbers-end c = refl
+
+pub returns-then-out-n : goal.returns-then-out-n
+returns-then-out-n c =
+    let p = c in
+    written-not (put_as (ap refused_text p.Numbers-of.ensures) p.put_numbers-n.ensures) c.if-out-n.true
+
+pub returns : goal.returns
+returns c =
+    let e = c in
+    let p = e in
+    let t = ap refused_text p.Numbers-of.ensures in
+    written-whole (put_as t p.put_numbers-n.ensures) e.if-out-n.false (omega arith) (put_as t c.put_numbers.ensures)
