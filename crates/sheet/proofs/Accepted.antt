@@ -76,27 +76,27 @@ module _ (s : List ℕ) where
   pub up_take : (last : List ℕ) (n : ℕ) (places : List ℕ) → GoesUp s last places → GoesUp s last (take n places)
   up_take last zero places g = tt
   up_take last (suc n) [] g = tt
-  up_take last (suc n) (at ∷ places) g = (g.0, g.1, up_take _ n places g.2)
+  up_take last (suc n) (at ∷ places) g = (g.0, g.1, up_take (key (line_at s at)) n places g.2)
 
   pub up_form : (last places : List ℕ) (i : ℕ) → GoesUp s last places → i < length places → is_form (drop (get_or places i 0) s) ≡ true
   up_form last [] i g h = absurd (omega arith)
   up_form last (at ∷ places) zero g h = g.0
-  up_form last (at ∷ places) (suc i) g h = up_form _ places i g.2 (omega arith)
+  up_form last (at ∷ places) (suc i) g h = up_form (key (line_at s at)) places i g.2 (omega arith)
 
   pub up_above : (last places : List ℕ) (i : ℕ) → GoesUp s last places → i < length places →
       cmp last (key (line_at s (get_or places i 0))) ≡ Less
   up_above last [] i g h = absurd (omega arith)
   up_above last (at ∷ places) zero g h = g.1
-  up_above last (at ∷ places) (suc i) g h = cmp_trans last _ _ g.1 (up_above _ places i g.2 (omega arith))
+  up_above last (at ∷ places) (suc i) g h = cmp_trans last _ _ g.1 (up_above (key (line_at s at)) places i g.2 (omega arith))
 
   pub up_pair : (last places : List ℕ) (i j : ℕ) → GoesUp s last places → i < j → j < length places →
       cmp (key (line_at s (get_or places i 0))) (key (line_at s (get_or places j 0))) ≡ Less
   up_pair last [] i j g h l = absurd (omega arith)
   up_pair last (at ∷ places) i zero g h l = absurd (omega arith)
-  up_pair last (at ∷ places) zero (suc j) g h l = up_above _ places j g.2 (omega arith)
-  up_pair last (at ∷ places) (suc i) (suc j) g h l = up_pair _ places i j g.2 (omega arith) (omega arith)
+  up_pair last (at ∷ places) zero (suc j) g h l = up_above (key (line_at s at)) places j g.2 (omega arith)
+  up_pair last (at ∷ places) (suc i) (suc j) g h l = up_pair (key (line_at s at)) places i j g.2 (omega arith) (omega arith)
 
   pub up_member : (last places : List ℕ) (at : ℕ) → GoesUp s last places → Memᴰ at places → is_form (drop at s) ≡ true
   up_member last [] at g m = absurd (Memᴰ.not-nil m)
   up_member last (a ∷ places) at g m =
-      ⊎_elim (λ e. ap (λ (x : ℕ). is_form (drop x s)) e ∙ g.0) (λ k. up_member _ places at g.2 k) (Memᴰ.cases_cons m)
+      ⊎_elim (λ e. ap (λ (x : ℕ). is_form (drop x s)) e ∙ g.0) (λ k. up_member (key (line_at s a)) places at g.2 k) (Memᴰ.cases_cons m)

@@ -1,0 +1,17 @@
+-- `check::check_sheet` meets its contract: all lines are judged as those from the walk's place on. Assumes nothing.
+use Prim.Native.Nat.{ℕ, ◌-◌, ◌≤◌}
+use native.Mathlib.Omega.{arith}
+use borrow.Author.Rules.{rules}
+use mathlib.Core.Path.{◌≡◌, refl, sym, ◌∙◌}
+use mathlib.Core.List.{List}
+use lib.ListN.{length}
+use Rattle.sheet.specs.Lines.{sheet_check}
+use Rattle.sheet.specs.Walks.{Standing}
+use Rattle.sheet.proofs.Walks.{Formed, judged_ahead, turn, check_long, check_walk}
+use Rattle.sheet.proofs.check.check_sheet.Given as goal
+
+abbrev pub invariant-loop-next : goal.invariant-loop-next
+invariant-loop-next l = (l.walk.at ≤ length l.s) × Standing l.s l.walk.last × (sheet_check l.s ≡ judged_ahead l.s l.walk)
+
+abbrev pub decreases-loop-next : goal.decreases-loop-next
+decreases-loop-next l = length l.s - l.walk.at

@@ -1,0 +1,17 @@
+-- `keys::along` meets its contract: what is left of the name stands to what is left of the head as the name does to the head.
+-- Assumes nothing.
+use mathlib.Core.Path.{◌≡◌, refl, sym, ◌∙◌}
+use Prim.Native.Nat.{◌-◌, ◌≤◌}
+use native.Mathlib.Nat.{le_antisymm}
+use native.Mathlib.Numerals.{add-one}
+use native.Mathlib.Omega.{arith}
+use lib.ListN.{length, drop}
+use Rattle.sheet.specs.Keys.{spaced, headed}
+use Rattle.sheet.proofs.Spaced.{spaced-past, spaced-none, spaced-cons, head_ended, head_less, head_greater, head_same, head_all}
+use Rattle.sheet.proofs.keys.along.Given as goal
+
+abbrev pub invariant-loop-i : goal.invariant-loop-i
+invariant-loop-i l = (l.i ≤ length l.p) × (headed (spaced l.t) l.p ≡ headed (spaced (drop l.i l.t)) (drop l.i l.p))
+
+abbrev pub decreases-loop-i : goal.decreases-loop-i
+decreases-loop-i l = length l.p - l.i

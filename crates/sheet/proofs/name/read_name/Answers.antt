@@ -1,0 +1,58 @@
+-- `sheet::name::read_name` meets its contract: what is read of the name's bytes, and those to come, are all of them. Assumes nothing.
+use Prim.Native.Nat.{◌+◌, ◌-◌, ◌≤◌}
+use native.Mathlib.Omega.{arith}
+use mathlib.Core.Path.{◌≡◌, refl, sym, ap, ◌∙◌}
+use mathlib.Core.List.{[]}
+use lib.ListN.{length, drop}
+use Rattle.text.specs.Utf8.{owes, run}
+use Rattle.text.specs.Owes.{owed_of}
+use Rattle.text.specs.Names.{name_run}
+use Rattle.sheet.specs.Forms.{front}
+use Rattle.sheet.proofs.Fronts.{stops_here, stops_end, goes_on_lem, owed_on, read_done}
+use Rattle.sheet.proofs.name.read_name.Goals as goal
+
+pub skip_threes-i-requires : goal.skip_threes-i-requires
+skip_threes-i-requires c = c.requires
+
+pub loop-i-init : goal.loop-i-init
+loop-i-init c = let p = c.skip_threes-i.ensures in (p.ahead, p.inside, p.counted, p.owed)
+
+pub bounds-s-i : goal.bounds-s-i
+bounds-s-i c = omega arith
+
+pub overflow_sub-i : goal.overflow_sub-i
+overflow_sub-i c = omega arith
+
+pub returns-then-is_forbidden : goal.returns-then-is_forbidden
+returns-then-is_forbidden c =
+    let f = c in
+    let k = f in
+    let a = k.args in
+    let z = stops_here a.s.now k.loop-i.i f.loop-i-test.true (sym f.is_forbidden.ensures ∙ c.if-is_forbidden.true) in
+    (omega arith, omega arith, c.named.ensures ∙ read_done a.s.now k.loop-i.i a.«from» (owed_of k.loop-i.state) k.loop-i.invariant.0 z k.loop-i.invariant.2 k.loop-i.invariant.3)
+
+pub overflow_add-i : goal.overflow_add-i
+overflow_add-i c = omega arith
+
+pub loop-i-smaller : goal.loop-i-smaller
+loop-i-smaller c = omega arith
+
+pub loop-i-preserved : goal.loop-i-preserved
+loop-i-preserved c =
+    let f = c in
+    let k = f in
+    let a = k.args in
+    let h = f.loop-i-test.true in
+    let e = sym f.is_forbidden.ensures ∙ c.if-is_forbidden.false in
+    let g = goes_on_lem a.s.now k.loop-i.i h e in
+    (omega arith, omega arith, omega arith, k.loop-i.invariant.3 ∙ owed_on a.s.now k.loop-i.i _ _ h e c.next-state.ensures)
+
+pub overflow_sub-i-2 : goal.overflow_sub-i-2
+overflow_sub-i-2 c = omega arith
+
+pub returns : goal.returns
+returns c =
+    let k = c in
+    let a = k.args in
+    let z = stops_end a.s.now k.loop-i.i c.loop-i-test.false in
+    (omega arith, omega arith, c.named-2.ensures ∙ read_done a.s.now k.loop-i.i a.«from» (owed_of k.loop-i.state) k.loop-i.invariant.0 z k.loop-i.invariant.2 k.loop-i.invariant.3)

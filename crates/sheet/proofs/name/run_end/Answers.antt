@@ -1,0 +1,43 @@
+-- `sheet::name::run_end` meets its contract: from i on the run ends where it ends from `from` on. Assumes nothing.
+use Prim.Native.Nat.{◌+◌, ◌-◌, ◌≤◌}
+use native.Mathlib.Omega.{arith}
+use mathlib.Core.Path.{◌≡◌, refl, sym, ◌∙◌}
+use lib.ListN.{length, drop}
+use Rattle.text.specs.Names.{name_run}
+use Rattle.sheet.proofs.Fronts.{stops_here, stops_end, goes_on_lem}
+use Rattle.sheet.proofs.name.run_end.Goals as goal
+
+pub loop-i-init : goal.loop-i-init
+loop-i-init c = (c.requires, refl)
+
+pub bounds-s-i : goal.bounds-s-i
+bounds-s-i c = omega arith
+
+pub returns-then-is_forbidden : goal.returns-then-is_forbidden
+returns-then-is_forbidden c =
+    let f = c in
+    let k = f in
+    let a = k.args in
+    let z = stops_here a.s.now k.loop-i.i f.loop-i-test.true (sym f.is_forbidden.ensures ∙ c.if-is_forbidden.true) in
+    (omega arith, omega arith)
+
+pub overflow_add-i : goal.overflow_add-i
+overflow_add-i c = omega arith
+
+pub loop-i-smaller : goal.loop-i-smaller
+loop-i-smaller c = omega arith
+
+pub loop-i-preserved : goal.loop-i-preserved
+loop-i-preserved c =
+    let f = c in
+    let k = f in
+    let a = k.args in
+    let g = goes_on_lem a.s.now k.loop-i.i f.loop-i-test.true (sym f.is_forbidden.ensures ∙ c.if-is_forbidden.false) in
+    (omega arith, omega arith)
+
+pub returns : goal.returns
+returns c =
+    let k = c in
+    let a = k.args in
+    let z = stops_end a.s.now k.loop-i.i c.loop-i-test.false in
+    (omega arith, omega arith)

@@ -1,0 +1,44 @@
+-- `walk::is_above` meets its contract: nothing stands below every key, and the last line is compared as a question's is. Assumes nothing.
+use mathlib.Core.Path.{◌≡◌, sym, ap, subst, ◌∙◌}
+use mathlib.Core.Bool.{true}
+use mathlib.Core.List.{List, ◌++◌, append-nil}
+use Prim.Native.Nat.{ℕ}
+use lib.ListN.{drop}
+use borrow.Author.Rules.{rules}
+use Rattle.runs.specs.Runs.{cmp, is_less}
+use Rattle.runs.specs.declared.Order.{Order}
+use Rattle.sheet.specs.Forms.{is_form, key_of}
+use Rattle.sheet.specs.Walks.{key_before, Standing}
+use Rattle.sheet.specs.declared.walk.Before.{Before}
+use Rattle.sheet.proofs.walk.is_above.Goals as goal
+use Rattle.sheet.proofs.walk.is_above.Goals.{After-line_order-order}
+
+pub returns-in_default : goal.returns-in_default
+returns-in_default c =
+    let a = c.args in
+    ap (λ (l : Before). is_less (cmp (key_before a.s.now l) (key_of a.letter a.name.now))) (sym c.in_default.is)
+
+pub line_order-order-requires : goal.line_order-order-requires
+line_order-order-requires c =
+    let l = c in
+    let b = l in
+    subst (Standing b.args.s.now) l.in-At.is b.requires
+
+-- the order found, of the last line and this key
+order : (c : After-line_order-order) → let a = c.args in
+    c.line_order-order.result ≡ cmp (key_before a.s.now a.last) (key_of a.letter a.name.now)
+order c =
+    let l = c in
+    let a = l.args in
+    c.line_order-order.ensures
+    ∙ ap (λ (n : List ℕ). cmp (key_before a.s.now (Before.At l.in-At.at)) (key_of a.letter n)) (append-nil a.name.now)
+    ∙ ap (λ (x : Before). cmp (key_before a.s.now x) (key_of a.letter a.name.now)) (sym l.in-At.is)
+
+pub returns-in-Less : goal.returns-in-Less
+returns-in-Less c = ap is_less (sym c.in-Less.is ∙ order (goal.at.returns-in-Less c).After-line_order-order)
+
+pub returns-in-Equal : goal.returns-in-Equal
+returns-in-Equal c = ap is_less (sym c.in-Equal.is ∙ order (goal.at.returns-in-Equal c).After-line_order-order)
+
+pub returns-in-Greater : goal.returns-in-Greater
+returns-in-Greater c = ap is_less (sym c.in-Greater.is ∙ order (goal.at.returns-in-Greater c).After-line_order-order)
