@@ -9,7 +9,7 @@ use Rattle.sheet.specs.Lines.{sheet_check}
 use Rattle.sheet.specs.Walks.{Standing}
 use Rattle.sheet.proofs.Walks.{Formed, judged_ahead, turn, check_long, check_walk}
 use Rattle.sheet.proofs.check.check_sheet.Goals as goal
-use Rattle.sheet.proofs.check.check_sheet.Goals.{In-Form-2}
+use Rattle.sheet.proofs.check.check_sheet.Goals.{In-Form}
 
 pub returns-then-s-gt-SHEET_BYTES : goal.returns-then-s-gt-SHEET_BYTES
 returns-then-s-gt-SHEET_BYTES c = check_long _ c.if-s-gt-SHEET_BYTES.true
@@ -39,14 +39,14 @@ returns-in-NotAbove c =
     sym (d.loop-next.invariant.2 ∙ (turn d.args.s.now d.loop-next.walk _ (sym c.in-NotAbove.is ∙ t.step-line.ensures)).said)
 
 -- the form that was reached
-form : (c : In-Form-2) → let d = c in
+form : (c : In-Form) → let d = c in
     Formed d.args.s.now d.loop-next.walk c.in-Form.letter c.in-Form.name_end c.in-Form.value_end c.in-Form.next
 form c = let d = c in turn d.args.s.now d.loop-next.walk _ (sym c.in-Form.is ∙ c.step-line.ensures)
 
 pub loop-next-smaller : goal.loop-next-smaller
-loop-next-smaller c = let f = form (goal.at.loop-next-smaller c).In-Form-2 in omega (arith, f.longer, f.fits)
+loop-next-smaller c = let f = form (goal.at.loop-next-smaller c).In-Form in omega (arith, f.longer, f.fits)
 
 pub loop-next-preserved : goal.loop-next-preserved
 loop-next-preserved c =
-    let f = form (goal.at.loop-next-preserved c).In-Form-2 in
+    let f = form (goal.at.loop-next-preserved c).In-Form in
     (f.fits, f.standing, c.loop-next.invariant.2 ∙ f.said)

@@ -28,11 +28,8 @@ module _ (c : After-skip-h) where
 
 -- whether p stands behind these and v, and e behind it; and what is left
 module _ (c : After-skip-past_e) where
-  abbrev second : tie.After-skip2
-  second = c
-
   abbrev v : List ℕ
-  v = second.args.v.now
+  v = c.args.v.now
 
   abbrev x : List ℕ
   x = past 0x68 (past 0x77 v)
@@ -42,20 +39,20 @@ module _ (c : After-skip-past_e) where
 
   has_p : has 0x70 (past 0x76 x) ≡ ltb c.skip-past_v.result c.skip-past_p.result
   has_p =
-      ap (has 0x70) (sym (to_r v second.skip.result second.skip2.result c.skip-past_v.result c.skip-past_p.result c.skip-past_e.result
-      second.skip.ensures.0 second.skip2.ensures.0 c.skip-past_v.ensures.0 c.skip-past_p.ensures.0 c.skip-past_e.ensures.0))
+      ap (has 0x70) (sym (to_r v c.skip-w.result c.skip-h.result c.skip-past_v.result c.skip-past_p.result c.skip-past_e.result
+      c.skip-w.ensures.0 c.skip-h.ensures.0 c.skip-past_v.ensures.0 c.skip-past_p.ensures.0 c.skip-past_e.ensures.0))
       ∙ sym c.skip-past_p.ensures.1
 
   has_e : has 0x65 (past 0x70 (past 0x76 x)) ≡ ltb c.skip-past_p.result c.skip-past_e.result
   has_e =
-      ap (has 0x65) (sym (to_p v second.skip.result second.skip2.result c.skip-past_v.result c.skip-past_p.result c.skip-past_e.result
-      second.skip.ensures.0 second.skip2.ensures.0 c.skip-past_v.ensures.0 c.skip-past_p.ensures.0 c.skip-past_e.ensures.0))
+      ap (has 0x65) (sym (to_p v c.skip-w.result c.skip-h.result c.skip-past_v.result c.skip-past_p.result c.skip-past_e.result
+      c.skip-w.ensures.0 c.skip-h.ensures.0 c.skip-past_v.ensures.0 c.skip-past_p.ensures.0 c.skip-past_e.ensures.0))
       ∙ sym c.skip-past_e.ensures.1
 
   left_over : drop c.skip-past_e.result v ≡ after_flags v
   left_over =
-      to_e v second.skip.result second.skip2.result c.skip-past_v.result c.skip-past_p.result c.skip-past_e.result
-      second.skip.ensures.0 second.skip2.ensures.0 c.skip-past_v.ensures.0 c.skip-past_p.ensures.0 c.skip-past_e.ensures.0
+      to_e v c.skip-w.result c.skip-h.result c.skip-past_v.result c.skip-past_p.result c.skip-past_e.result
+      c.skip-w.ensures.0 c.skip-h.ensures.0 c.skip-past_v.ensures.0 c.skip-past_p.ensures.0 c.skip-past_e.ensures.0
 
 pub returns-then-w-eq0 : goal.returns-then-w-eq0
 returns-then-w-eq0 c =

@@ -1,5 +1,5 @@
 -- `tables::origins::lookup_origin` meets its contract. The loop's invariant: every row before `low` is below the word, every row from
--- `high` on is above it. The rows ascend, so the order of the middle row and the word settles one side. Assumes nothing.
+-- `high` on is above it. The rows ascend, so the order of the middle row and the settles.args.word.now one side. Assumes nothing.
 use Prim.Native.Nat.{ℕ, ◌≤◌, ◌<◌, ◌+◌, ◌-◌, ◌/◌}
 use mathlib.Core.Path.{◌≡◌, ap, sym, ◌∙◌}
 use mathlib.Core.List.{List, []}
@@ -16,23 +16,24 @@ use Rattle.runs.proofs.Ordered.{same_cmp, is_equal}
 use Rattle.tables.proofs.Laid.{laid-asks, laid-row}
 use Rattle.tables.proofs.Facts.{origin_word_count, origin_tag_count, origin_ascending}
 use Rattle.tables.proofs.Listed.{all_below, all_above, none_before, none, not_listed, listed_at}
-use Rattle.tables.proofs.origins.lookup_origin.Invariants.{word}
 use Rattle.tables.proofs.origins.lookup_origin.Goals as goal
+use Rattle.tables.proofs.origins.lookup_origin.Tie
+use Rattle.tables.proofs.origins.lookup_origin.Reads
+use Rattle.tables.proofs.origins.lookup_origin.Lts.View.{up-In-loop-low}
 use Rattle.tables.proofs.origins.lookup_origin.Goals.{After-compare-order, In-loop-low}
 
--- the middle row of a turn, and the word
-abbrev middle : In-loop-low → ℕ
-middle c = c.loop-low.low + (c.loop-low.high - c.loop-low.low) / 2
+-- the middle row of a turn, and the abbrev.args.word.now middle : tie.In-loop invariant-loop decreases-loop → ℕ
+middle c = c.before.loop.low + (c.before.loop.high - c.before.loop.low) / 2
 
 inside : (c : In-loop-low) → middle c < length origin_words
 inside c = rw origin_word_count (omega arith)
 
 -- what the comparison says of it
-compared : (c : After-compare-order) → c.compare-order.result ≡ cmp (get_or origin_words (middle c.before.before) []) (word c.before.before)
+compared : (c : After-compare-order) → c.compare-order.result ≡ cmp (get_or origin_words (middle (up-In-loop-low Tie.the-claims Reads.Pre Reads.Post c.before.before.before)) []) c.args.word.now
 compared c =
     let d = c in
     let laid = d.requires.0 in
-    c.compare-order.ensures ∙ ap (λ (r : List ℕ). cmp r (word c.before.before)) (c.row-listed.ensures ∙ laid-row laid (middle c.before.before) (inside c.before.before))
+    c.compare-order.ensures ∙ ap (λ (r : List ℕ). cmp r d.args.word.now) (c.row-listed.ensures ∙ laid-row laid (middle (up-In-loop-low Tie.the-claims Reads.Pre Reads.Post c.before.before.before)) (inside (up-In-loop-low Tie.the-claims Reads.Pre Reads.Post c.before.before.before)))
 
 pub loop-low-init : goal.loop-low-init
 loop-low-init c = (omega arith, omega arith, (λ k l. absurd (not-suc-le-zero l)), (λ k l h. absurd (omega arith)))
@@ -56,7 +57,7 @@ pub loop-low-preserved-in-Less : goal.loop-low-preserved-in-Less
 loop-low-preserved-in-Less c =
     let d = c in
     let e = sym (compared (goal.at.loop-low-preserved-in-Less c).After-compare-order) ∙ c.in-Less.is in
-    (omega arith, omega arith, all_below origin_words origin_ascending (word (goal.at.loop-low-preserved-in-Less c).In-loop-low) (middle (goal.at.loop-low-preserved-in-Less c).In-loop-low) (inside (goal.at.loop-low-preserved-in-Less c).In-loop-low) e, d.loop-low.invariant.3)
+    (omega arith, omega arith, all_below origin_words origin_ascending d.args.word.now (middle (goal.at.loop-low-preserved-in-Less c).In-loop-low) (inside (goal.at.loop-low-preserved-in-Less c).In-loop-low) e, d.loop-low.invariant.3)
 
 pub bounds-tags-middle : goal.bounds-tags-middle
 bounds-tags-middle c =
@@ -73,9 +74,9 @@ returns-in-Equal c =
     let e = sym (compared (goal.at.returns-in-Equal c).After-compare-order) ∙ c.in-Equal.is in
     let r = c.tagged_by.ensures ∙ ap (λ (l : List ℕ). tagged_by (get_or l (middle (goal.at.returns-in-Equal c).In-loop-low) 0)) tags in
     ap Listed r
-    ∙ sym (listed_at origin_words origin_tags (word (goal.at.returns-in-Equal c).In-loop-low) (middle (goal.at.returns-in-Equal c).In-loop-low) (inside (goal.at.returns-in-Equal c).In-loop-low) (origin_tag_count ∙ sym origin_word_count)
-    (none_before origin_words origin_ascending (word (goal.at.returns-in-Equal c).In-loop-low) (middle (goal.at.returns-in-Equal c).In-loop-low) (inside (goal.at.returns-in-Equal c).In-loop-low) e)
-    (same_cmp (get_or origin_words (middle (goal.at.returns-in-Equal c).In-loop-low) []) (word (goal.at.returns-in-Equal c).In-loop-low) ∙ ap is_equal e))
+    ∙ sym (listed_at origin_words origin_tags d.args.word.now (middle (goal.at.returns-in-Equal c).In-loop-low) (inside (goal.at.returns-in-Equal c).In-loop-low) (origin_tag_count ∙ sym origin_word_count)
+    (none_before origin_words origin_ascending d.args.word.now (middle (goal.at.returns-in-Equal c).In-loop-low) (inside (goal.at.returns-in-Equal c).In-loop-low) e)
+    (same_cmp (get_or origin_words (middle (goal.at.returns-in-Equal c).In-loop-low) []) d.args.word.now ∙ ap is_equal e))
 
 pub loop-low-smaller : goal.loop-low-smaller
 loop-low-smaller c = omega arith
@@ -84,7 +85,7 @@ pub loop-low-preserved : goal.loop-low-preserved
 loop-low-preserved c =
     let d = c in
     let e = sym (compared (goal.at.loop-low-preserved c).After-compare-order) ∙ c.in-Greater.is in
-    (omega arith, omega arith, d.loop-low.invariant.2, (λ k l h. all_above origin_words origin_ascending (word (goal.at.loop-low-preserved c).In-loop-low) (middle (goal.at.loop-low-preserved c).In-loop-low) e k l (rw origin_word_count h)))
+    (omega arith, omega arith, d.loop-low.invariant.2, (λ k l h. all_above origin_words origin_ascending d.args.word.now (middle (goal.at.loop-low-preserved c).In-loop-low) e k l (rw origin_word_count h)))
 
 pub returns : goal.returns
 unfolding origin_of

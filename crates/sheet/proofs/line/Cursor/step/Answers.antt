@@ -19,8 +19,8 @@ use Rattle.sheet.proofs.Stepped.{at_end, at_no_form, at_form, letter_at, name_go
 use Rattle.sheet.proofs.line.Cursor.step.Goals as goal
 use Rattle.sheet.proofs.line.Cursor.step.Tie
 use Rattle.sheet.proofs.line.Cursor.step.Reads
-use Rattle.sheet.proofs.line.Cursor.step.Lts.View.{up-After-begins_with-2, up-After-head_at-letter, up-Else-letter-eq0}
-use Rattle.sheet.proofs.line.Cursor.step.Goals.{After-begins_with, After-begins_with-2, After-head_at-letter, After-is_meant, Else-letter-eq0, Else-s-at}
+use Rattle.sheet.proofs.line.Cursor.step.Lts.View.{up-After-head_at-letter, up-Else-letter-eq0}
+use Rattle.sheet.proofs.line.Cursor.step.Goals.{After-begins_with, After-begins_with-2, After-head_at-letter, After-is_meant, Else-letter-eq0}
 
 pub returns-then-s-at : goal.returns-then-s-at
 returns-then-s-at c = at_end c.args.s.now c.args.self.at c.if-s-at.true
@@ -47,7 +47,7 @@ returns-then-not-name c =
     let n = c in
     let d = n in
     at_no_form d.args.s.now d.args.self.at d.if-s-at.false
-    (unnamed _ (sym (name_good d.args.s.now d.args.self.at) ∙ sym n.read_name-name.ensures.2 ∙ c.if-not-name.true))
+    (unnamed _ (sym (name_good d.args.s.now d.args.self.at) ∙ sym n.read_name-name.ensures.2 ∙ not-true _ c.if-not-name.true))
 
 -- the test of what stands between, at the name's end
 between_at : (c : After-begins_with) → begins_with between (drop c.read_name-name.result.end c.args.s.now) ≡ c.begins_with.result
@@ -69,64 +69,58 @@ run_end-value_end-requires c =
     let d = n in
     begins-room between d.args.s.now n.read_name-name.result.end n.read_name-name.ensures.1 (between_at (goal.at.run_end-value_end-requires c).After-begins_with ∙ c.if-not-begins_with.false)
 
-abbrev start : After-begins_with-2 → Else-s-at
-start c = c
-
-abbrev name-end : After-begins_with-2 → ℕ
-name-end c = c.read_name-name.result.end
-
-closed_at : (c : After-begins_with-2) → begins_with closing (drop c.run_end-value_end.result (sheet-of (start c))) ≡ c.begins_with-2.result
-closed_at c = ap (begins_with closing) (sym (rest_all (sheet-of (start c)) c.run_end-value_end.result)) ∙ sym c.begins_with-2.ensures
+closed_at : (c : After-begins_with-2) → begins_with closing (drop c.run_end-value_end.result c.args.s.now) ≡ c.begins_with-2.result
+closed_at c = ap (begins_with closing) (sym (rest_all c.args.s.now c.run_end-value_end.result)) ∙ sym c.begins_with-2.ensures
 
 pub returns-then-not-begins_with-2 : goal.returns-then-not-begins_with-2
 returns-then-not-begins_with-2 c =
     let b = c in
-    let d = start (goal.at.returns-then-not-begins_with-2 c).After-begins_with-2 in
-    at_no_form d.args.s.now d.args.self.at d.if1.left (not_closed _ (ap (begins_with closing) (to_value_end d.args.s.now d.args.self.at (name-end (goal.at.returns-then-not-begins_with-2 c).After-begins_with-2) b.run_end-value_end.result b.read_name-name.ensures.0 b.run_end-value_end.ensures.0) ∙ closed_at (goal.at.returns-then-not-begins_with-2 c).After-begins_with-2 ∙ c.if-not-begins_with-2.true))
+    let d = b in
+    at_no_form d.args.s.now d.args.self.at d.if-s-at.false (not_closed _ (ap (begins_with closing) (to_value_end d.args.s.now d.args.self.at b.read_name-name.result.end b.run_end-value_end.result b.read_name-name.ensures.0 b.run_end-value_end.ensures.0) ∙ closed_at (goal.at.returns-then-not-begins_with-2 c).After-begins_with-2 ∙ c.if-not-begins_with-2.true))
 
 pub is_meant-requires : goal.is_meant-requires
 is_meant-requires c =
     let b = c in
     let v = b in
-    let n : name_run (drop (name-end (goal.at.is_meant-requires c).After-begins_with-2 + 2) (sheet-of (start (goal.at.is_meant-requires c).After-begins_with-2))) ≡ b.run_end-value_end.result - (name-end (goal.at.is_meant-requires c).After-begins_with-2 + 2) = omega (arith, v.run_end-value_end.ensures.0) in
-    ap (λ (k : ℕ). holds_forbidden (take k (drop (name-end (goal.at.is_meant-requires c).After-begins_with-2 + 2) (sheet-of (start (goal.at.is_meant-requires c).After-begins_with-2))))) (sym n) ∙ front-plain (drop (name-end (goal.at.is_meant-requires c).After-begins_with-2 + 2) (sheet-of (start (goal.at.is_meant-requires c).After-begins_with-2)))
+    let n : name_run (drop (b.read_name-name.result.end + 2) b.args.s.now) ≡ b.run_end-value_end.result - (b.read_name-name.result.end + 2) = omega (arith, v.run_end-value_end.ensures.0) in
+    ap (λ (k : ℕ). holds_forbidden (take k (drop (b.read_name-name.result.end + 2) b.args.s.now))) (sym n) ∙ front-plain (drop (b.read_name-name.result.end + 2) b.args.s.now)
 
 -- the entry that is tested for its meaning is that of the line
-meaning_at : (c : After-is_meant) → is_meant (line_at (sheet-of (start (up-After-begins_with-2 Tie.the-claims Reads.Pre Reads.Post c.before.before.before.before.before))) (at_of (start (up-After-begins_with-2 Tie.the-claims Reads.Pre Reads.Post c.before.before.before.before.before)))) ≡ c.is_meant.result
+meaning_at : (c : After-is_meant) → is_meant (line_at c.args.s.now c.args.self.at) ≡ c.is_meant.result
 meaning_at c =
     let b = c in
-    let d = start (up-After-begins_with-2 Tie.the-claims Reads.Pre Reads.Post c.before.before.before.before.before) in
+    let d = b in
     let pe = b.read_name-name.ensures.0 in
     let pf = b.run_end-value_end.ensures.0 in
     ap is_meant (same_entry (line_at d.args.s.now d.args.self.at) _ _ _
     (letter_at d.args.s.now d.args.self.at _ (head-of (up-Else-letter-eq0 Tie.the-claims Reads.Pre Reads.Post c.before.before.before.before.before.before.before.before.before.before.before.before.before.before.before.before.before.before)))
-    (name_is d.args.s.now d.args.self.at (name-end (up-After-begins_with-2 Tie.the-claims Reads.Pre Reads.Post c.before.before.before.before.before)) b.run_end-value_end.result pe pf)
-    (value_is d.args.s.now d.args.self.at (name-end (up-After-begins_with-2 Tie.the-claims Reads.Pre Reads.Post c.before.before.before.before.before)) b.run_end-value_end.result pe pf))
+    (name_is d.args.s.now d.args.self.at b.read_name-name.result.end b.run_end-value_end.result pe pf)
+    (value_is d.args.s.now d.args.self.at b.read_name-name.result.end b.run_end-value_end.result pe pf))
     ∙ sym c.is_meant.ensures
 
 pub returns-then-not-is_meant : goal.returns-then-not-is_meant
 returns-then-not-is_meant c =
-    let d = start (goal.at.returns-then-not-is_meant c).After-begins_with-2 in
-    at_no_form d.args.s.now d.args.self.at d.if1.left (unmeant _ (meaning_at (goal.at.returns-then-not-is_meant c).After-is_meant ∙ c.if-not-is_meant.true))
+    let d = c in
+    at_no_form d.args.s.now d.args.self.at d.if-s-at.false (unmeant _ (meaning_at (goal.at.returns-then-not-is_meant c).After-is_meant ∙ c.if-not-is_meant.true))
 
 pub overflow_add-end : goal.overflow_add-end
 overflow_add-end c =
     let b = c in
-    let r : b.run_end-value_end.result + 3 ≤ length (sheet-of (start (goal.at.overflow_add-end c).After-begins_with-2)) = begins-room closing (sheet-of (start (goal.at.overflow_add-end c).After-begins_with-2)) b.run_end-value_end.result b.run_end-value_end.ensures.1 (closed_at (goal.at.overflow_add-end c).After-begins_with-2 ∙ c.if-not-begins_with-2.false) in
-    omega (arith, (start (goal.at.overflow_add-end c).After-begins_with-2).before.before.well-formed)
+    let r : b.run_end-value_end.result + 3 ≤ length b.args.s.now = begins-room closing b.args.s.now b.run_end-value_end.result b.run_end-value_end.ensures.1 (closed_at (goal.at.overflow_add-end c).After-begins_with-2 ∙ c.if-not-begins_with-2.false) in
+    omega (arith, b.well_formed)
 
 pub returns : goal.returns
 returns c =
     let b = c in
-    let d = start (goal.at.returns c).After-begins_with-2 in
+    let d = b in
     let n = b in
     let pe = n.read_name-name.ensures.0 in
     let pf = b.run_end-value_end.ensures.0 in
-    let e = name-end (goal.at.returns c).After-begins_with-2 in
+    let e = b.read_name-name.result.end in
     let f = b.run_end-value_end.result in
     let t = drop d.args.self.at d.args.s.now in
     let h = subst (λ (l : ℕ). begins_with (head_with l) t ≡ true) (sym (letter_is t _ (head-of (goal.at.returns c).Else-letter-eq0))) (head-of (goal.at.returns c).Else-letter-eq0) in
     let m = ap (begins_with between) (to_name_end d.args.s.now d.args.self.at e f pe pf) ∙ between_at (goal.at.returns c).After-begins_with ∙ b.if-not-begins_with.false in
     let k = ap (begins_with closing) (to_value_end d.args.s.now d.args.self.at e f pe pf) ∙ closed_at (goal.at.returns c).After-begins_with-2 ∙ c.if-not-begins_with-2.false in
-    let g = sym (name_good d.args.s.now d.args.self.at) ∙ sym n.read_name-name.ensures.2 ∙ b.if-not-name.false in
-    at_form d.args.s.now d.args.self.at e f pe pf _ (letter_at d.args.s.now d.args.self.at _ (head-of (goal.at.returns c).Else-letter-eq0)) d.if1.left (formed t (shaped t h m k) g (meaning_at (goal.at.returns c).After-is_meant ∙ c.if-not-is_meant.false))
+    let g = sym (name_good d.args.s.now d.args.self.at) ∙ sym n.read_name-name.ensures.2 ∙ not-false _ b.if-not-name.false in
+    at_form d.args.s.now d.args.self.at e f pe pf _ (letter_at d.args.s.now d.args.self.at _ (head-of (goal.at.returns c).Else-letter-eq0)) d.if-s-at.false (formed t (shaped t h m k) g (meaning_at (goal.at.returns c).After-is_meant ∙ c.if-not-is_meant.false))
