@@ -1,5 +1,5 @@
 -- `tables::origins::lookup_origin` meets its contract. The loop's invariant: every row before `low` is below the word, every row from
--- `high` on is above it. The rows ascend, so the order of the middle row and the settles.args.word.now one side. Assumes nothing.
+-- `high` on is above it. The rows ascend, so the order of the middle row and the word settles one side. Assumes nothing.
 use Prim.Native.Nat.{ℕ, ◌≤◌, ◌<◌, ◌+◌, ◌-◌, ◌/◌}
 use mathlib.Core.Path.{◌≡◌, ap, sym, ◌∙◌}
 use mathlib.Core.List.{List, []}
@@ -17,23 +17,22 @@ use Rattle.tables.proofs.Laid.{laid-asks, laid-row}
 use Rattle.tables.proofs.Facts.{origin_word_count, origin_tag_count, origin_ascending}
 use Rattle.tables.proofs.Listed.{all_below, all_above, none_before, none, not_listed, listed_at}
 use Rattle.tables.proofs.origins.lookup_origin.Goals as goal
-use Rattle.tables.proofs.origins.lookup_origin.Tie
-use Rattle.tables.proofs.origins.lookup_origin.Reads
 use Rattle.tables.proofs.origins.lookup_origin.Lts.View.{up-In-loop-low}
 use Rattle.tables.proofs.origins.lookup_origin.Goals.{After-compare-order, In-loop-low}
 
--- the middle row of a turn, and the abbrev.args.word.now middle : tie.In-loop invariant-loop decreases-loop → ℕ
-middle c = c.before.loop.low + (c.before.loop.high - c.before.loop.low) / 2
+-- the middle row of a turn, and the word
+abbrev middle : In-loop-low → ℕ
+middle c = c.loop-low.low + (c.loop-low.high - c.loop-low.low) / 2
 
 inside : (c : In-loop-low) → middle c < length origin_words
 inside c = rw origin_word_count (omega arith)
 
 -- what the comparison says of it
-compared : (c : After-compare-order) → c.compare-order.result ≡ cmp (get_or origin_words (middle (up-In-loop-low Tie.the-claims Reads.Pre Reads.Post c.before.before.before)) []) c.args.word.now
+compared : (c : After-compare-order) → c.compare-order.result ≡ cmp (get_or origin_words (middle (up-In-loop-low _ _ _ _ _ c.before.before.before)) []) c.args.word.now
 compared c =
     let d = c in
     let laid = d.requires.0 in
-    c.compare-order.ensures ∙ ap (λ (r : List ℕ). cmp r d.args.word.now) (c.row-listed.ensures ∙ laid-row laid (middle (up-In-loop-low Tie.the-claims Reads.Pre Reads.Post c.before.before.before)) (inside (up-In-loop-low Tie.the-claims Reads.Pre Reads.Post c.before.before.before)))
+    c.compare-order.ensures ∙ ap (λ (r : List ℕ). cmp r d.args.word.now) (c.row-listed.ensures ∙ laid-row laid (middle (up-In-loop-low _ _ _ _ _ c.before.before.before)) (inside (up-In-loop-low _ _ _ _ _ c.before.before.before)))
 
 pub loop-low-init : goal.loop-low-init
 loop-low-init c = (omega arith, omega arith, (λ k l. absurd (not-suc-le-zero l)), (λ k l h. absurd (omega arith)))

@@ -1,5 +1,5 @@
 -- `tables::origins::lookup_origin` meets its contract. The loop's invariant: every row before `low` is below the word, every row from
--- `high` on is above it. The rows ascend, so the order of the middle row and the settles.args.word.now one side. Assumes nothing.
+-- `high` on is above it. The rows ascend, so the order of the middle row and the word settles one side. Assumes nothing.
 use Prim.Native.Nat.{ℕ, ◌≤◌, ◌<◌, ◌+◌, ◌-◌, ◌/◌}
 use mathlib.Core.Path.{◌≡◌, ap, sym, ◌∙◌}
 use mathlib.Core.List.{List, []}
@@ -19,9 +19,9 @@ use Rattle.tables.proofs.Listed.{all_below, all_above, none_before, none, not_li
 use Rattle.tables.proofs.origins.lookup_origin.Given as goal
 
 abbrev pub invariant-loop-low : goal.invariant-loop-low
-invariant-loop-low l = (l.initial.high ≤ l.low) × (l.low ≤ 79)
-    × ((k : ℕ) → k < l.initial.high → cmp (get_or origin_words k []) word ≡ Less)
-    × ((k : ℕ) → l.low ≤ k → k < 79 → cmp (get_or origin_words k []) word ≡ Greater)
+invariant-loop-low l = (l.low ≤ l.high) × (l.high ≤ 79)
+    × ((k : ℕ) → k < l.low → cmp (get_or origin_words k []) l.word ≡ Less)
+    × ((k : ℕ) → l.high ≤ k → k < 79 → cmp (get_or origin_words k []) l.word ≡ Greater)
 
 abbrev pub decreases-loop-low : goal.decreases-loop-low
-decreases-loop-low l = l.low - l.initial.high
+decreases-loop-low l = l.high - l.low

@@ -1,0 +1,40 @@
+-- `answers::kind_of` meets its contract: the kind that the value spells.
+-- Assumes nothing.
+use mathlib.Core.Path.{ap}
+use borrow.Author.Rules.{rules}
+use borrow.Author.Tests.{not-true, not-false}
+use Rattle.lookup.specs.Answers.{ValueOf, kind_told, kind_for}
+use Rattle.lookup.proofs.Parts.{one-part, unread, kind_read}
+use Rattle.lookup.proofs.answers.kind_of.Goals as goal
+use Rattle.lookup.proofs.answers.kind_of.Goals.{After-value_of-v}
+
+-- what is said of the value found
+value : (c : After-value_of-v) →
+    let a = c.args in
+    ValueOf a.sheet.now 0x6B a.name.now c.value_of-v.result
+value c =
+    let a = c.args in
+    one-part a.sheet.now 0x6B a.name.now _ c.value_of-v.ensures
+
+pub returns-then-not-v : goal.returns-then-not-v
+unfolding kind_for
+returns-then-not-v c =
+    let v = c in
+    let a = v.args in
+    ap kind_told (unread a.sheet.now 0x6B a.name.now _ (value (goal.at.returns-then-not-v c).After-value_of-v) (c.if-not-v.true))
+
+pub returns-then-same : goal.returns-then-same
+returns-then-same c =
+    let e = c in
+    let i = e in
+    let v = i in
+    let a = v.args in
+    kind_read a.sheet.now a.name.now _ (value (goal.at.returns-then-same c).After-value_of-v) (i.if-not-v.false) _ _ e.same.ensures c.if-same.true
+
+pub returns-else-same : goal.returns-else-same
+returns-else-same c =
+    let e = c in
+    let i = e in
+    let v = i in
+    let a = v.args in
+    kind_read a.sheet.now a.name.now _ (value (goal.at.returns-else-same c).After-value_of-v) (i.if-not-v.false) _ _ e.same.ensures c.if-same.false

@@ -1,0 +1,48 @@
+-- `answers::spot_of` meets its contract: the name of the line found stands from its fourth byte on, up to its own end. Assumes nothing.
+use mathlib.Core.Path.{◌≡◌, refl, sym, ap, ◌∙◌}
+use mathlib.Core.Bool.{true}
+use mathlib.Core.List.{◌++◌}
+use Prim.Native.Nat.{ℕ, ◌+◌, ◌≤◌}
+use native.Mathlib.Omega.{arith}
+use lib.ListN.{length, drop}
+use borrow.Author.Rules.{rules}
+use Rattle.sheet.specs.Forms.{is_form}
+use Rattle.sheet.specs.Steps.{value_end}
+use Rattle.sheet.proofs.Forms.{line-fits}
+use Rattle.lookup.specs.Search.{Sought}
+use Rattle.lookup.specs.declared.search.Found.TheVariants.{At}
+use Rattle.lookup.proofs.Parts.{name_of, name-spot}
+use Rattle.lookup.proofs.answers.spot_of.Goals as goal
+use Rattle.lookup.proofs.answers.spot_of.Goals.{In-At}
+
+-- the line found
+line : (c : In-At) →
+    let a = c.args in
+    Sought a.sheet.now 0x77 (a.p.now ++ a.q.now) (At c.in-At.at)
+line c = rw c.in-At.is at c.seek-search.ensures.0
+
+room : (c : In-At) →
+    let a = c.args in
+    value_end a.sheet.now c.in-At.at + 3 ≤ length a.sheet.now
+room c =
+    let a = c.args in
+    line-fits a.sheet.now c.in-At.at (line c).placed.form
+
+pub returns-in_default : goal.returns-in_default
+returns-in_default c = name_of _ _ _ _ _ (rw c.in_default.is at c.seek-search.ensures.0) refl (omega arith)
+
+pub overflow_add-from : goal.overflow_add-from
+overflow_add-from c = omega (arith, room (goal.at.overflow_add-from c).In-At)
+
+pub name_end-end-requires : goal.name_end-end-requires
+name_end-end-requires c = (line (goal.at.name_end-end-requires c).In-At).placed.form
+
+pub overflow_sub-len : goal.overflow_sub-len
+overflow_sub-len c = omega (arith, c.name_end-end.ensures)
+
+pub returns : goal.returns
+returns c =
+    let k = c in
+    let a = k.args in
+    let e = c.name_end-end.ensures in
+    name_of a.sheet.now 0x77 (a.p.now ++ a.q.now) _ _ (line (goal.at.returns c).In-At) (name-spot a.sheet.now k.in-At.at _ e) (omega (arith, room (goal.at.returns c).In-At, e))

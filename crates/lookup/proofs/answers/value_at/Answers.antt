@@ -1,0 +1,47 @@
+-- `answers::value_at` meets its contract: the value stands between the line's own ends. Assumes nothing.
+use mathlib.Core.Path.{◌≡◌, sym, ap, subst, ◌∙◌}
+use Prim.Native.Nat.{ℕ, ◌+◌, ◌≤◌}
+use native.Mathlib.Omega.{arith}
+use lib.ListN.{length}
+use borrow.Author.Rules.{rules}
+use Rattle.sheet.specs.Steps.{value_end}
+use Rattle.sheet.proofs.Forms.{line-fits}
+use Rattle.lookup.specs.Answers.{FormAt, value_spot}
+use Rattle.lookup.specs.declared.search.Found.TheVariants.{At}
+use Rattle.lookup.proofs.Parts.{value-spot}
+use Rattle.lookup.proofs.answers.value_at.Goals as goal
+use Rattle.lookup.proofs.answers.value_at.Goals.{In-At}
+
+pub returns-in_default : goal.returns-in_default
+returns-in_default c =
+    let b = c in
+    (ap (value_spot b.args.sheet.now) (sym c.in_default.is), omega arith)
+
+-- the line found
+line : (c : In-At) → let a = c.args in FormAt a.sheet.now (At c.in-At.at)
+line c = let b = c in subst (FormAt b.args.sheet.now) c.in-At.is b.requires
+
+room : (c : In-At) → let a = c.args in value_end a.sheet.now c.in-At.at + 3 ≤ length a.sheet.now
+room c = let a = c.args in line-fits a.sheet.now c.in-At.at (line c)
+
+pub name_end-end-requires : goal.name_end-end-requires
+name_end-end-requires c = line (goal.at.name_end-end-requires c).In-At
+
+pub overflow_add-from : goal.overflow_add-from
+overflow_add-from c = omega (arith, room (goal.at.overflow_add-from c).In-At, c.name_end-end.ensures)
+
+pub value_end-to-requires : goal.value_end-to-requires
+value_end-to-requires c = (line (goal.at.value_end-to-requires c).In-At, c.name_end-end.ensures)
+
+pub overflow_sub-len : goal.overflow_sub-len
+overflow_sub-len c = omega (arith, c.name_end-end.ensures, c.value_end-to.ensures)
+
+pub returns : goal.returns
+returns c =
+    let n = c in
+    let k = n in
+    let b = k in (
+      value-spot b.args.sheet.now k.in-At.at n.name_end-end.result n.name_end-end.ensures c.value_end-to.result c.value_end-to.ensures
+          ∙ ap (value_spot b.args.sheet.now) (sym k.in-At.is),
+      omega (arith, room (goal.at.returns c).In-At, n.name_end-end.ensures, c.value_end-to.ensures),
+    )

@@ -1,0 +1,13 @@
+-- `answers::value_of` meets its contract: the value of the line found is what the sheet replies. Assumes nothing.
+use mathlib.Core.List.{◌++◌}
+use borrow.Author.Rules.{rules}
+use Rattle.lookup.proofs.Parts as parts
+use Rattle.lookup.proofs.answers.value_of.Goals as goal
+
+pub value_at-requires : goal.value_at-requires
+value_at-requires c = parts.form_at _ _ _ c.seek-search.result.found c.seek-search.ensures.0
+
+pub returns : goal.returns
+returns c =
+    let s = c in
+    parts.value_of _ _ _ s.seek-search.result.found _ s.seek-search.ensures.0 c.value_at.ensures.0 c.value_at.ensures.1

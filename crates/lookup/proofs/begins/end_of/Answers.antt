@@ -1,0 +1,101 @@
+-- `begins::end_of` meets its contract: no line from the first on before number lo stands above, and that of number hi does.
+-- Assumes nothing.
+use mathlib.Core.Path.{◌≡◌, refl, sym, ap, ◌∙◌}
+use Prim.Native.Nat.{ℕ, ◌+◌, ◌-◌, ◌/◌, ◌≤◌, ◌<◌}
+use native.Mathlib.Omega.{arith}
+use lib.ListN.{length, drop, get_or}
+use borrow.Author.Rules.{rules}
+use Rattle.runs.specs.declared.Order.{Order}
+use Rattle.runs.specs.declared.Order.TheVariants.{Less, Equal, Greater}
+use Rattle.sheet.specs.Forms.{is_form, key, key_of}
+use Rattle.sheet.specs.Lines.{line_at}
+use Rattle.sheet.specs.Keys.{headed}
+use Rattle.lookup.specs.Begins.{headed_at, Edged, Ended}
+use Rattle.lookup.proofs.Settled.{indexed-form}
+use Rattle.lookup.proofs.begins.end_of.Goals as goal
+use Rattle.lookup.proofs.begins.end_of.Goals.{After-head_order-o}
+
+abbrev middle : After-head_order-o → ℕ
+middle c = let l = c.loop-lo in l.lo + (l.hi - l.lo) / 2
+
+-- what was found of the line in the middle
+seen : (c : After-head_order-o) (o : Order) → c.head_order-o.result ≡ o →
+    let a = c.args in headed_at a.sheet.now a.starts.now a.letter a.head.now (middle c) ≡ o
+seen c o e =
+    let a = c.args in
+    ap (λ (x : ℕ). headed (key (line_at a.sheet.now x)) (key_of a.letter a.head.now)) (sym c.wide-at.ensures) ∙ sym c.head_order-o.ensures ∙ e
+
+after_middle : (c : After-head_order-o) (o : Order) → c.head_order-o.result ≡ o →
+    let a = c.args in headed_at a.sheet.now a.starts.now a.letter a.head.now (middle c + 1 - 1) ≡ o
+after_middle c o e =
+    let a = c.args in
+    let m : middle c + 1 - 1 ≡ middle c = omega arith in
+    ap (headed_at a.sheet.now a.starts.now a.letter a.head.now) m ∙ seen c o e
+
+pub loop-lo-init : goal.loop-lo-init
+loop-lo-init c = (omega arith, c.requires.1, omega arith, (λ h. absurd (omega arith)), λ h. absurd (omega arith))
+
+pub overflow_sub-mid : goal.overflow_sub-mid
+overflow_sub-mid c = omega arith
+
+pub overflow_add-mid : goal.overflow_add-mid
+overflow_add-mid c = omega arith
+
+pub offset_bounds-starts-mid : goal.offset_bounds-starts-mid
+offset_bounds-starts-mid c = omega (arith, c.good)
+
+pub bounds-starts-mid : goal.bounds-starts-mid
+bounds-starts-mid c = omega arith
+
+pub head_order-o-requires : goal.head_order-o-requires
+head_order-o-requires c =
+    let d = c in
+    let a = d in
+    ap (λ (x : ℕ). is_form (drop x a.args.sheet.now)) c.wide-at.ensures
+    ∙ indexed-form a.args.sheet.now a.args.starts.now (d.loop-lo.lo + (d.loop-lo.hi - d.loop-lo.lo) / 2) a.pre.0 (omega (arith, c.loop-lo-test.true, d.loop-lo.invariant.1, d.loop-lo.invariant.2, a.pre.2))
+
+pub overflow_add-lo : goal.overflow_add-lo
+overflow_add-lo c = omega arith
+
+pub loop-lo-smaller-in-Less : goal.loop-lo-smaller-in-Less
+loop-lo-smaller-in-Less c = omega arith
+
+pub loop-lo-preserved-in-Less : goal.loop-lo-preserved-in-Less
+loop-lo-preserved-in-Less c =
+    let h = c in
+    let v = h.loop-lo.invariant in
+    (omega (arith, v.0), omega arith, v.2, (λ p f. let q : Greater ≡ Less = sym f ∙ after_middle (goal.at.loop-lo-preserved-in-Less c).After-head_order-o Less c.in-Less.is in let z : ◌≡◌ {A = ℕ} 0 1 = cc in absurd (omega arith)), v.4)
+
+pub overflow_add-lo-in-Equal : goal.overflow_add-lo-in-Equal
+overflow_add-lo-in-Equal c = omega arith
+
+pub loop-lo-smaller-in-Equal : goal.loop-lo-smaller-in-Equal
+loop-lo-smaller-in-Equal c = omega arith
+
+pub loop-lo-preserved-in-Equal : goal.loop-lo-preserved-in-Equal
+loop-lo-preserved-in-Equal c =
+    let h = c in
+    let v = h.loop-lo.invariant in
+    (omega (arith, v.0), omega arith, v.2, (λ p f. let q : Greater ≡ Equal = sym f ∙ after_middle (goal.at.loop-lo-preserved-in-Equal c).After-head_order-o Equal c.in-Equal.is in let z : ◌≡◌ {A = ℕ} 0 1 = cc in absurd (omega arith)), v.4)
+
+pub loop-lo-smaller : goal.loop-lo-smaller
+loop-lo-smaller c = omega arith
+
+pub loop-lo-preserved : goal.loop-lo-preserved
+loop-lo-preserved c =
+    let h = c in
+    let v = h.loop-lo.invariant in
+    (v.0, omega arith, omega (arith, v.2), v.3, λ p. seen (goal.at.loop-lo-preserved c).After-head_order-o Greater c.in-Greater.is)
+
+pub returns : goal.returns
+returns c =
+    let d = c in
+    let a = d.args in
+    let v = d.loop-lo.invariant in
+    let m : d.loop-lo.hi - 1 ≡ d.loop-lo.lo - 1 = omega (arith, v.1, c.loop-lo-test.false) in
+    record {
+      «from» = omega (arith, v.0, v.1);
+      upto = v.2;
+      last = λ h f. v.3 (omega (arith, c.loop-lo-test.false)) (ap (headed_at a.sheet.now a.starts.now a.letter a.head.now) (sym m) ∙ f);
+      above = v.4;
+    }

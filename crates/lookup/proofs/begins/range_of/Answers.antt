@@ -1,0 +1,9 @@
+-- `begins::range_of` meets its contract: what the two searches find are the bounds of the lines that begin so. Assumes nothing.
+use borrow.Author.Rules.{rules}
+use Rattle.lookup.proofs.Begun.{ranged}
+use Rattle.lookup.proofs.begins.range_of.Goals as goal
+
+pub returns : goal.returns
+returns c =
+    let b = c in
+    ranged b.args.sheet.now b.args.letter b.args.head.now b.args.starts.now b.requires c.edge_of-edge.result c.end_of-hi.result c.edge_of-edge.ensures c.end_of-hi.ensures

@@ -1,0 +1,109 @@
+-- `begins::seek_in` meets its contract: asking the lines from number lo on that come before number hi answers as asking all lines
+-- does. Assumes nothing.
+use mathlib.Core.Path.{◌≡◌, refl, sym, ap, ◌∙◌}
+use mathlib.Core.Bool.{true}
+use mathlib.Core.List.{List, ◌++◌}
+use Prim.Native.Nat.{ℕ, ◌+◌, ◌-◌, ◌/◌, ◌≤◌, ◌<◌}
+use native.Mathlib.Omega.{arith}
+use lib.ListN.{length, take, drop, get_or}
+use borrow.Author.Rules.{rules}
+use Rattle.runs.specs.declared.Order.{Order}
+use Rattle.runs.specs.declared.Order.TheVariants.{Less, Equal, Greater}
+use Rattle.sheet.specs.Forms.{is_form, key, key_of}
+use Rattle.sheet.specs.Keys.{headed}
+use Rattle.sheet.specs.Lines.{line_at}
+use Rattle.lookup.specs.Search.{place_in, judge}
+use Rattle.lookup.specs.declared.search.Found.TheVariants.{At}
+use Rattle.lookup.specs.Begins.{Begun}
+use Rattle.lookup.proofs.Begun.{among, begun_at, among_round, among_none}
+use Rattle.lookup.proofs.Settled.{indexed-form, sought_placed}
+use Rattle.lookup.proofs.begins.seek_in.Goals as goal
+use Rattle.lookup.proofs.begins.seek_in.Lts.View.{up-After-wide-at}
+use Rattle.lookup.proofs.begins.seek_in.Goals.{After-order_behind-o, After-wide-at}
+
+pub loop-lo-init : goal.loop-lo-init
+loop-lo-init c = let a = c in (omega arith, a.requires.1.ordered, omega arith, among a.args.sheet.now a.args.letter a.args.p.now a.args.starts.now a.requires.0 a.args.range a.requires.1 a.args.q.now)
+
+abbrev middle : After-wide-at → ℕ
+middle c = let l = c.loop-lo in l.lo + (l.hi - l.lo) / 2
+
+-- a form stands at the line in the middle
+form : (c : After-wide-at) → is_form (drop c.wide-at.result c.args.sheet.now) ≡ true
+form c =
+    let a = c in
+    let v = c.loop-lo.invariant in
+    ap (λ (x : ℕ). is_form (drop x a.args.sheet.now)) c.wide-at.ensures
+    ∙ indexed-form a.args.sheet.now a.args.starts.now (middle c) a.pre.0 (omega (arith, c.loop-lo-test.true, v.2, a.pre.1.inside))
+
+-- which begins so
+begun : (c : After-wide-at) → let a = c.args in
+    headed (key (line_at a.sheet.now c.wide-at.result)) (key_of a.letter a.p.now) ≡ Equal
+begun c =
+    let a = c in
+    let v = c.loop-lo.invariant in
+    begun_at a.args.sheet.now a.args.letter a.args.p.now a.args.starts.now a.pre.0 a.args.range a.pre.1 a.args.q.now
+    (middle c) c.wide-at.result (omega (arith, v.0)) (omega (arith, c.loop-lo-test.true, v.2)) c.wide-at.ensures
+
+pub overflow_sub-mid : goal.overflow_sub-mid
+overflow_sub-mid c = omega arith
+
+pub overflow_add-mid : goal.overflow_add-mid
+overflow_add-mid c = omega arith
+
+pub offset_bounds-starts-mid : goal.offset_bounds-starts-mid
+offset_bounds-starts-mid c = omega (arith, c.good)
+
+pub bounds-starts-mid : goal.bounds-starts-mid
+bounds-starts-mid c = let a = c in omega (arith, a.pre.1.inside)
+
+pub order_behind-o-requires : goal.order_behind-o-requires
+order_behind-o-requires c = (form (goal.at.order_behind-o-requires c).After-wide-at, begun (goal.at.order_behind-o-requires c).After-wide-at)
+
+-- one round
+module _ (c : After-order_behind-o) (o : Order) (e : c.order_behind-o.result ≡ o) where
+  round_told : let a = (start (loop-of c)).args in let l = (loop-of c).loop in let k = key_of a.letter (a.p.now ++ a.q.now) in
+      place_in a.sheet.now a.starts.now k ≡
+      judge o (place_in a.sheet.now (drop (middle (up-After-wide-at _ _ _ _ _ c.before.before) + 1) (take l.hi a.starts.now)) k) (At c.wide-at.result) (place_in a.sheet.now (drop l.lo (take (middle (up-After-wide-at _ _ _ _ _ c.before.before)) a.starts.now)) k)
+  round_told =
+      let b = start (loop-of c) in
+      let a = b.args in
+      let l = (loop-of c).loop in
+      let t = c.loop-lo-test.taken in
+      l.inv.3
+      ∙ among_round a.sheet.now a.letter a.p.now a.starts.now b.pre.0 a.range b.pre.1 a.q.now
+      l.lo l.hi (middle (up-After-wide-at _ _ _ _ _ c.before.before)) c.wide-at.result c.order_behind-o.result o l.inv.0 (omega arith) (omega (arith, t)) l.inv.2
+      c.wide-at.ensures c.order_behind-o.ensures e
+
+pub overflow_add-lo : goal.overflow_add-lo
+overflow_add-lo c = omega arith
+
+pub loop-lo-smaller-in-Less : goal.loop-lo-smaller-in-Less
+loop-lo-smaller-in-Less c = omega arith
+
+pub loop-lo-preserved-in-Less : goal.loop-lo-preserved-in-Less
+loop-lo-preserved-in-Less c =
+    let n = c in
+    let v = (loop-of (at_wide n Less c.in-Less.is)).loop.inv in
+    (omega (arith, v.0), omega arith, v.2, round_told (goal.at.loop-lo-preserved-in-Less c).After-order_behind-o Less c.in-Less.is)
+
+pub returns-in-Equal : goal.returns-in-Equal
+returns-in-Equal c =
+    let n = c in
+    let b = n in
+    sought_placed b.args.sheet.now b.args.starts.now b.args.letter (b.args.p.now ++ b.args.q.now) _ b.pre.0 (sym (round_told (goal.at.returns-in-Equal c).After-order_behind-o Equal c.in-Equal.is))
+
+pub loop-lo-smaller : goal.loop-lo-smaller
+loop-lo-smaller c = omega arith
+
+pub loop-lo-preserved : goal.loop-lo-preserved
+loop-lo-preserved c =
+    let n = c in
+    let v = (loop-of (at_wide n Greater c.in-Greater.is)).loop.inv in
+    (v.0, omega arith, omega (arith, v.2), round_told (goal.at.loop-lo-preserved c).After-order_behind-o Greater c.in-Greater.is)
+
+pub returns : goal.returns
+returns c =
+    let d = c in
+    let b = d in
+    sought_placed b.args.sheet.now b.args.starts.now b.args.letter (b.args.p.now ++ b.args.q.now) _ b.pre.0
+    (sym (d.loop-lo.invariant.3 ∙ among_none b.args.sheet.now b.args.letter b.args.p.now b.args.starts.now b.pre.0 b.args.range b.pre.1 b.args.q.now d.loop-lo.lo d.loop-lo.hi c.loop-lo-test.false))

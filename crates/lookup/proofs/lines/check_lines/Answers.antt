@@ -1,0 +1,122 @@
+-- `lines::check_lines` meets its contract: all lines are judged as those from the walk's place on; the stored starts, and those of the
+-- lines to come, are the starts of all lines. Assumes nothing.
+use Prim.Native.Nat.{ℕ, ◌-◌, ◌*◌, ◌<◌, ◌≤◌}
+use native.Mathlib.Omega.{arith}
+use borrow.Author.Rules.{rules}
+use mathlib.Core.Path.{◌≡◌, refl, sym, ap, ◌∙◌}
+use mathlib.Core.List.{List, [], ◌∷◌, ◌++◌, append-nil}
+use lib.ListN.{length, take, drop, get_or, length-set}
+use lib.Seq.{length-take-le}
+use Rattle.sheet.specs.Limits.{shortest_line}
+use Rattle.sheet.specs.Lines.{starts_of, sheet_check}
+use Rattle.sheet.specs.Walks.{Standing, starts_ahead}
+use Rattle.sheet.specs.declared.check.SheetCheck.{SheetCheck}
+use Rattle.sheet.proofs.Walks.{Formed, Faulty, judged_ahead, turn, check_long, check_walk}
+use Rattle.lookup.specs.Starts.{Room}
+use Rattle.lookup.specs.Stored.{stored_in}
+use Rattle.lookup.proofs.Count.{stored-front, stored-behind, stored_far, line_next}
+use Rattle.lookup.proofs.lines.check_lines.Goals as goal
+use Rattle.lookup.proofs.lines.check_lines.Goals.{At-loop-next, In-Form}
+
+pub returns-then-s-gt-SHEET_BYTES : goal.returns-then-s-gt-SHEET_BYTES
+returns-then-s-gt-SHEET_BYTES c = record { said = check_long _ c.if-s-gt-SHEET_BYTES.true; lines = refl; stored = refl }
+
+pub loop-next-init : goal.loop-next-init
+loop-next-init c = (omega arith, tt, check_walk _ c.if-s-gt-SHEET_BYTES.false, refl, omega arith, refl, refl)
+
+pub step-line-requires : goal.step-line-requires
+step-line-requires c = c.loop-next.invariant.1
+
+-- so far there are no more lines than there is room for
+few : (d : At-loop-next) → d.loop-next.n ≤ length d.loop-next.out
+unfolding Room
+few d = let b = d in omega (arith, d.loop-next.invariant.0, d.loop-next.invariant.3, d.loop-next.invariant.4, b.requires d.if-s-gt-SHEET_BYTES.false)
+
+-- what is stored so far
+stored : (d : At-loop-next) → d.loop-next.out ≡ stored_in d.args.s.now d.loop-next.n d.args.out.now
+stored d = stored_far (starts_of d.args.s.now) d.loop-next.out d.args.out.now d.loop-next.n (few d) _ d.loop-next.invariant.5 d.loop-next.invariant.6
+
+-- the line to come, where one does, is number n
+line_at : (d : At-loop-next) (at : ℕ) (rest : List ℕ) → starts_ahead d.args.s.now d.loop-next.walk ≡ at ∷ rest →
+    (d.loop-next.n < length (starts_of d.args.s.now)) × (get_or (starts_of d.args.s.now) d.loop-next.n 0 ≡ at)
+line_at d at rest e =
+    line_next (starts_of d.args.s.now) d.loop-next.out d.args.out.now d.loop-next.n (few d) at rest
+    (d.loop-next.invariant.5 ∙ ap (λ (x : List ℕ). take d.loop-next.n d.loop-next.out ++ x) e)
+
+pub returns-in-End : goal.returns-in-End
+returns-in-End c =
+    let t = c in
+    let d = t in
+    let e = turn d.args.s.now d.loop-next.walk _ (sym c.in-End.is ∙ t.step-line.ensures) in
+    let p : starts_of d.args.s.now ≡ take d.loop-next.n d.loop-next.out = d.loop-next.invariant.5 ∙ ap (λ (l : List ℕ). take d.loop-next.n d.loop-next.out ++ l) e.starts ∙ append-nil _ in
+    record {
+      said = sym (d.loop-next.invariant.2 ∙ e.said);
+      lines = sym (ap length p ∙ length-take-le d.loop-next.n d.loop-next.out (few (goal.at.returns-in-End c).At-loop-next));
+      stored = stored (goal.at.returns-in-End c).At-loop-next;
+    }
+
+pub shape_of-out-in-End : goal.shape_of-out-in-End
+shape_of-out-in-End c = c.loop-next.invariant.3
+
+pub shape_of-out-in-NoForm : goal.shape_of-out-in-NoForm
+shape_of-out-in-NoForm c = c.loop-next.invariant.3
+
+pub shape_of-out-in-NotAbove : goal.shape_of-out-in-NotAbove
+shape_of-out-in-NotAbove c = c.loop-next.invariant.3
+
+pub returns-in-NoForm : goal.returns-in-NoForm
+returns-in-NoForm c =
+    let t = c in
+    let d = t in
+    let e = turn d.args.s.now d.loop-next.walk _ (sym c.in-NoForm.is ∙ t.step-line.ensures) in
+    record { said = sym (d.loop-next.invariant.2 ∙ e.said); lines = line_at (goal.at.returns-in-NoForm c).At-loop-next _ _ e.starts; stored = stored (goal.at.returns-in-NoForm c).At-loop-next }
+
+pub returns-in-NotAbove : goal.returns-in-NotAbove
+returns-in-NotAbove c =
+    let t = c in
+    let d = t in
+    let e = turn d.args.s.now d.loop-next.walk _ (sym c.in-NotAbove.is ∙ t.step-line.ensures) in
+    record { said = sym (d.loop-next.invariant.2 ∙ e.said); lines = line_at (goal.at.returns-in-NotAbove c).At-loop-next _ _ e.starts; stored = stored (goal.at.returns-in-NotAbove c).At-loop-next }
+
+-- the form that was reached
+form : (c : In-Form) → let d = c in
+    Formed d.args.s.now d.loop-next.walk c.in-Form.letter c.in-Form.name_end c.in-Form.value_end c.in-Form.next
+form c = let d = c in turn d.args.s.now d.loop-next.walk _ (sym c.in-Form.is ∙ c.step-line.ensures)
+
+-- a line has at least so many bytes that there is room for its start
+more : (c : In-Form) → let d = c in d.loop-next.n < length d.loop-next.out
+unfolding Room
+more c =
+    let d = c in
+    let b = d in
+    omega (arith, (form c).longer, (form c).ranges, d.loop-next.invariant.3, d.loop-next.invariant.4, b.requires d.if-s-gt-SHEET_BYTES.false)
+
+pub overflow_cast-out : goal.overflow_cast-out
+overflow_cast-out c = let l = c in let d = l in omega (arith, (form (goal.at.overflow_cast-out c).In-Form).inside, d.if-s-gt-SHEET_BYTES.false)
+
+pub offset_bounds-out-n : goal.offset_bounds-out-n
+offset_bounds-out-n c = omega (arith, more (goal.at.offset_bounds-out-n c).In-Form)
+
+pub bounds-out-n : goal.bounds-out-n
+bounds-out-n c = more (goal.at.bounds-out-n c).In-Form
+
+pub overflow_add-n : goal.overflow_add-n
+overflow_add-n c = omega (arith, more (goal.at.overflow_add-n c).In-Form)
+
+pub loop-next-smaller : goal.loop-next-smaller
+loop-next-smaller c = let f = form (goal.at.loop-next-smaller c).In-Form in omega (arith, f.longer, f.fits)
+
+pub loop-next-preserved : goal.loop-next-preserved
+loop-next-preserved c =
+    let l = c in
+    let f = form (goal.at.loop-next-preserved c).In-Form in
+    let d = l in (
+      f.fits,
+      f.standing,
+      d.loop-next.invariant.2 ∙ f.said,
+      simp length-set d.loop-next.invariant.3,
+      omega (arith, f.longer, d.loop-next.invariant.4),
+      d.loop-next.invariant.5 ∙ ap (λ (x : List ℕ). take d.loop-next.n d.loop-next.out ++ x) f.starts
+          ∙ sym (stored-front d.loop-next.out d.args.out.now d.loop-next.n d.loop-next.walk.at (more (goal.at.loop-next-preserved c).In-Form) _),
+      stored-behind d.loop-next.out d.args.out.now d.loop-next.n d.loop-next.walk.at (more (goal.at.loop-next-preserved c).In-Form) d.loop-next.invariant.6,
+    )

@@ -1,0 +1,30 @@
+-- `lines::check_lines` meets its contract: all lines are judged as those from the walk's place on; the stored starts, and those of the
+-- lines to come, are the starts of all lines. Assumes nothing.
+use Prim.Native.Nat.{ℕ, ◌-◌, ◌*◌, ◌<◌, ◌≤◌}
+use native.Mathlib.Omega.{arith}
+use borrow.Author.Rules.{rules}
+use mathlib.Core.Path.{◌≡◌, refl, sym, ap, ◌∙◌}
+use mathlib.Core.List.{List, [], ◌∷◌, ◌++◌, append-nil}
+use lib.ListN.{length, take, drop, get_or, length-set}
+use lib.Seq.{length-take-le}
+use Rattle.sheet.specs.Limits.{shortest_line}
+use Rattle.sheet.specs.Lines.{starts_of, sheet_check}
+use Rattle.sheet.specs.Walks.{Standing, starts_ahead}
+use Rattle.sheet.specs.declared.check.SheetCheck.{SheetCheck}
+use Rattle.sheet.proofs.Walks.{Formed, Faulty, judged_ahead, turn, check_long, check_walk}
+use Rattle.lookup.specs.Starts.{Room}
+use Rattle.lookup.specs.Stored.{stored_in}
+use Rattle.lookup.proofs.Count.{stored-front, stored-behind, stored_far, line_next}
+use Rattle.lookup.proofs.lines.check_lines.Given as goal
+
+abbrev pub invariant-loop-next : goal.invariant-loop-next
+invariant-loop-next l = (l.walk.at ≤ length l.s)
+    × Standing l.s l.walk.last
+    × (sheet_check l.s ≡ judged_ahead l.s l.walk)
+    × (length l.out ≡ length l.initial.out)
+    × (shortest_line * l.n ≤ l.walk.at)
+    × (starts_of l.s ≡ take l.n l.out ++ starts_ahead l.s l.walk)
+    × (drop l.n l.out ≡ drop l.n l.initial.out)
+
+abbrev pub decreases-loop-next : goal.decreases-loop-next
+decreases-loop-next l = length l.s - l.walk.at

@@ -1,0 +1,15 @@
+-- `lines::first_refusal` meets its contract: what refuses the word refuses it with every sheet. Assumes nothing.
+use mathlib.Core.Path.{◌≡◌, refl, sym, ◌∙◌}
+use borrow.Author.Rules.{rules}
+use Rattle.lookup.proofs.Readied.{refused_with, accepted_with}
+use Rattle.lookup.proofs.lines.first_refusal.Goals as goal
+
+pub returns-in-Refused : goal.returns-in-Refused
+returns-in-Refused c =
+    let k = c in
+    refused_with _ _ k.prepare_word-inputs.result k.prepare_word-inputs.ensures _ c.in-Refused.is
+
+pub returns-in-Accepted : goal.returns-in-Accepted
+returns-in-Accepted c =
+    let k = c in
+    accepted_with _ _ k.prepare_word-inputs.result k.prepare_word-inputs.ensures c.in-Accepted.is

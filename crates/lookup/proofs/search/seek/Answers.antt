@@ -1,0 +1,103 @@
+-- `search::seek` meets its contract: asking the lines from number lo on that come before number hi, in the rounds that are left,
+-- answers as asking all lines does. Assumes nothing.
+use mathlib.Core.Path.{◌≡◌, refl, sym, ap, ◌∙◌}
+use mathlib.Core.List.{List, ◌++◌}
+use Prim.Native.Nat.{ℕ, ◌-◌, ◌≤◌}
+use native.Mathlib.Omega.{arith}
+use lib.ListN.{length, take, drop, length-drop, length-take}
+use lib.Seq.{take-length}
+use borrow.Author.Rules.{rules}
+use Rattle.sheet.specs.Forms.{is_form, key_of}
+use Rattle.sheet.specs.Limits.{enough_rounds}
+use Rattle.lookup.specs.Search.{asked}
+use Rattle.lookup.proofs.Rounds.{asked-none, asked_spent, round_counted}
+use Rattle.lookup.proofs.Settled.{indexed-form, sought}
+use Rattle.lookup.proofs.search.seek.Goals as goal
+
+pub loop-rounds-init : goal.loop-rounds-init
+loop-rounds-init c =
+    let a = c.args in
+    let q = key_of a.letter (a.p.now ++ a.q.now) in
+    (omega arith, omega arith, ap (λ (l : List ℕ). asked enough_rounds a.sheet.now l q) (sym (take-length a.starts.now)), omega arith)
+
+pub returns-then-hi-lo : goal.returns-then-hi-lo
+returns-then-hi-lo c =
+    let d = c in
+    let b = d in
+    let a = b.args in
+    let n : length (drop d.loop-rounds.lo (take d.loop-rounds.hi a.starts.now)) ≡ 0 = simp (length-drop, length-take) (omega arith) in
+    (sought a.sheet.now a.starts.now a.letter _ _ b.requires (sym (d.loop-rounds.invariant.2 ∙ asked-none _ _ (enough_rounds - d.loop-rounds.rounds) _ n)), d.loop-rounds.invariant.3)
+
+pub overflow_add-rounds : goal.overflow_add-rounds
+overflow_add-rounds c = omega arith
+
+pub overflow_sub-mid : goal.overflow_sub-mid
+overflow_sub-mid c = omega arith
+
+pub overflow_add-mid : goal.overflow_add-mid
+overflow_add-mid c = omega arith
+
+pub offset_bounds-starts-mid : goal.offset_bounds-starts-mid
+offset_bounds-starts-mid c = omega (arith, c.well-formed)
+
+pub bounds-starts-mid : goal.bounds-starts-mid
+bounds-starts-mid c = omega arith
+
+pub line_order-o-requires : goal.line_order-o-requires
+line_order-o-requires c =
+    let d = c in
+    let b = d in
+    let a = b.args in
+    ap (λ (x : ℕ). is_form (drop x a.sheet.now)) c.wide-at.ensures
+    ∙ indexed-form a.sheet.now a.starts.now _ b.requires (omega arith)
+
+pub overflow_add-lo : goal.overflow_add-lo
+overflow_add-lo c = omega arith
+
+pub loop-rounds-smaller-in-Less : goal.loop-rounds-smaller-in-Less
+loop-rounds-smaller-in-Less c = omega arith
+
+pub loop-rounds-preserved-in-Less : goal.loop-rounds-preserved-in-Less
+loop-rounds-preserved-in-Less c =
+    let e = c in
+    let w = e in
+    let d = w in
+    let a = d.args in
+    let q = key_of a.letter (a.p.now ++ a.q.now) in
+    let k = round_counted a.sheet.now q enough_rounds a.starts.now d.loop-rounds.rounds d.loop-rounds.lo d.loop-rounds.hi _ _ _ _ (omega arith) (omega arith) (omega arith) refl
+    w.wide-at.ensures e.line_order-o.ensures c.in-Less.is in
+    (omega arith, omega arith, d.loop-rounds.invariant.2 ∙ k, omega arith)
+
+pub returns-in-Equal : goal.returns-in-Equal
+returns-in-Equal c =
+    let e = c in
+    let w = e in
+    let d = w in
+    let b = d in
+    let a = b.args in
+    let q = key_of a.letter (a.p.now ++ a.q.now) in
+    let k = round_counted a.sheet.now q enough_rounds a.starts.now d.loop-rounds.rounds d.loop-rounds.lo d.loop-rounds.hi _ _ _ _ (omega arith) (omega arith) (omega arith) refl
+    w.wide-at.ensures e.line_order-o.ensures c.in-Equal.is in
+    (sought a.sheet.now a.starts.now a.letter _ _ b.requires (sym (d.loop-rounds.invariant.2 ∙ k)), omega arith)
+
+pub loop-rounds-smaller : goal.loop-rounds-smaller
+loop-rounds-smaller c = omega arith
+
+pub loop-rounds-preserved : goal.loop-rounds-preserved
+loop-rounds-preserved c =
+    let e = c in
+    let w = e in
+    let d = w in
+    let a = d.args in
+    let q = key_of a.letter (a.p.now ++ a.q.now) in
+    let k = round_counted a.sheet.now q enough_rounds a.starts.now d.loop-rounds.rounds d.loop-rounds.lo d.loop-rounds.hi _ _ _ _ (omega arith) (omega arith) (omega arith) refl
+    w.wide-at.ensures e.line_order-o.ensures c.in-Greater.is in
+    (omega arith, omega arith, d.loop-rounds.invariant.2 ∙ k, omega arith)
+
+pub returns : goal.returns
+returns c =
+    let d = c in
+    let b = d in
+    let a = b.args in
+    let z : enough_rounds - d.loop-rounds.rounds ≡ 0 = omega arith in
+    (sought a.sheet.now a.starts.now a.letter _ _ b.requires (sym (d.loop-rounds.invariant.2 ∙ asked_spent _ _ (enough_rounds - d.loop-rounds.rounds) _ z)), d.loop-rounds.invariant.3)
