@@ -32,16 +32,16 @@ module _ (s q : List ℕ) where
   place_none last [] g h = refl
   place_none last (at ∷ places) g h =
       let k : cmp q (key (line_at s at)) ≡ Less = cmp_trans q last _ h g.1 in
-      place_other at places Greater (cmp_turned q _ ∙ ap turned k) refl ∙ place_none _ places g.2 k
+      place_other at places Greater (cmp_turned q _ ∙ ap turned k) refl ∙ place_none (key (line_at s at)) places g.2 k
 
   pub place_up : (last places : List ℕ) (m : ℕ) → GoesUp s last places → m < length places →
       cmp (key (line_at s (get_or places m 0))) q ≡ Less → place_in s places q ≡ place_in s (drop (suc m) places) q
   place_up last [] m g h e = absurd (omega arith)
   place_up last (at ∷ places) zero g h e = place_other at places Less e refl
   place_up last (at ∷ places) (suc m) g h e =
-      let k = cmp_trans (key (line_at s at)) (key (line_at s (get_or places m 0))) q (up_above s _ places m g.2 (omega arith)) e in
+      let k = cmp_trans (key (line_at s at)) (key (line_at s (get_or places m 0))) q (up_above s (key (line_at s at)) places m g.2 (omega arith)) e in
       place_other at places Less k refl
-      ∙ place_up _ places m g.2 (omega arith) e
+      ∙ place_up (key (line_at s at)) places m g.2 (omega arith) e
 
   pub place_down : (last places : List ℕ) (m : ℕ) → GoesUp s last places → m < length places →
       cmp (key (line_at s (get_or places m 0))) q ≡ Greater → place_in s places q ≡ place_in s (take m places) q
@@ -50,7 +50,7 @@ module _ (s q : List ℕ) where
       place_other at places Greater e refl
       ∙ place_none (key (line_at s at)) places g.2 (cmp_turned (key (line_at s at)) q ∙ ap turned e)
   place_down last (at ∷ places) (suc m) g h e =
-      ap (λ (r : Found). pick (same_text (key (line_at s at)) q) (At at) r) (place_down _ places m g.2 (omega arith) e)
+      ap (λ (r : Found). pick (same_text (key (line_at s at)) q) (At at) r) (place_down (key (line_at s at)) places m g.2 (omega arith) e)
 
   pub place_here : (last places : List ℕ) (m : ℕ) → GoesUp s last places → m < length places →
       cmp (key (line_at s (get_or places m 0))) q ≡ Equal → place_in s places q ≡ At (get_or places m 0)
@@ -59,8 +59,8 @@ module _ (s q : List ℕ) where
   place_here last (at ∷ places) (suc m) g h e =
       let z : key (line_at s (get_or places m 0)) ≡ q = cmp_equal _ q e in
       let k : cmp (key (line_at s at)) q ≡ Less =
-      ap (λ (x : List ℕ). cmp (key (line_at s at)) x) (sym z) ∙ up_above s _ places m g.2 (omega arith) in
-      place_other at places Less k refl ∙ place_here _ places m g.2 (omega arith) e
+      ap (λ (x : List ℕ). cmp (key (line_at s at)) x) (sym z) ∙ up_above s (key (line_at s at)) places m g.2 (omega arith) in
+      place_other at places Less k refl ∙ place_here (key (line_at s at)) places m g.2 (omega arith) e
 
   -- the line found replies what the list of the lines replies, and has the question's key
   pub place_replies : (places : List ℕ) → answer_at s (place_in s places q) ≡ reply_in (map (line_at s) places) q

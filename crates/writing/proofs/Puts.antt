@@ -39,14 +39,9 @@ placed_twice old at t u h =
 
 -- a text copied into the part of a buffer that it fills
 pub put_copied : (old text part : List ℕ) (at end : ℕ) → end ≡ at + length text → end ≤ length old → end ≤ largest
-    → part ≡ take (length text) text ++ drop (length text) (mid_of at (end - at) old) → Wrote old (put_mid at (end - at) old part) at end text
+    → part ≡ text → Wrote old (put_mid at (end - at) old part) at end text
 unfolding placed
-put_copied old text part at end e f g p =
-    let n : end - at ≡ length text = omega arith in
-    let m : length (mid_of at (end - at) old) ≡ length text = mid_len at end old f ∙ n in
-    let d : drop (length text) (mid_of at (end - at) old) ≡ [] =
-    ap (λ (k : ℕ). drop k (mid_of at (end - at) old)) (sym m) ∙ drop-length (mid_of at (end - at) old) in
-    let q : part ≡ text = p ∙ ap (λ (x : List ℕ). x ++ drop (length text) (mid_of at (end - at) old)) (take-length text) ∙ ap (λ (x : List ℕ). text ++ x) d ∙ append-nil text in
+put_copied old text part at end e f g q =
     let w : put_mid at (end - at) old part ≡ placed old at text =
     ap (λ (x : List ℕ). take at old ++ (x ++ drop (end - at) (drop at old))) q
     ∙ ap (λ (x : List ℕ). take at old ++ (text ++ x)) (Post-is at end old (omega arith) ∙ ap (λ (k : ℕ). drop k old) e) in

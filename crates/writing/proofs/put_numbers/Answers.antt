@@ -36,7 +36,7 @@ returns-in-Number c =
     (put_both p1.put-a.ensures (put_both p2.put_decimal-b.ensures p3.put.ensures))
 
 pub shape_of-out-in-Number : goal.shape_of-out-in-Number
-shape_of-out-in-Number c = (returns c).size
+shape_of-out-in-Number c = (returns-in-Number c).size
 
 pub returns-in-Placed : goal.returns-in-Placed
 returns-in-Placed c =
@@ -50,4 +50,4 @@ returns-in-Placed c =
     (put_both p2.put_decimal-b-in-Placed.ensures (put_both p3.put-c.ensures (put_both p4.put_decimal-d.ensures p5.put-in-Placed.ensures))))
 
 pub shape_of-out-in-Placed : goal.shape_of-out-in-Placed
-shape_of-out-in-Placed c = (returns-2 c).size
+shape_of-out-in-Placed c = (returns-in-Placed c).size

@@ -21,7 +21,7 @@ unfolding kind_for
 returns-then-not-v c =
     let v = c in
     let a = v.args in
-    ap kind_told (unread a.sheet.now 0x6B a.name.now _ (value (goal.at.returns-then-not-v c).After-value_of-v) (c.if-not-v.true))
+    ap kind_told (unread a.sheet.now 0x6B a.name.now _ (value (goal.at.returns-then-not-v c).After-value_of-v) (not-true _ c.if-not-v.true))
 
 pub returns-then-same : goal.returns-then-same
 returns-then-same c =
@@ -29,7 +29,7 @@ returns-then-same c =
     let i = e in
     let v = i in
     let a = v.args in
-    kind_read a.sheet.now a.name.now _ (value (goal.at.returns-then-same c).After-value_of-v) (i.if-not-v.false) _ _ e.same.ensures c.if-same.true
+    kind_read a.sheet.now a.name.now _ (value (goal.at.returns-then-same c).After-value_of-v) (not-false _ i.if-not-v.false) _ _ e.same.ensures c.if-same.true
 
 pub returns-else-same : goal.returns-else-same
 returns-else-same c =
@@ -37,4 +37,4 @@ returns-else-same c =
     let i = e in
     let v = i in
     let a = v.args in
-    kind_read a.sheet.now a.name.now _ (value (goal.at.returns-else-same c).After-value_of-v) (i.if-not-v.false) _ _ e.same.ensures c.if-same.false
+    kind_read a.sheet.now a.name.now _ (value (goal.at.returns-else-same c).After-value_of-v) (not-false _ i.if-not-v.false) _ _ e.same.ensures c.if-same.false

@@ -42,7 +42,7 @@ pub overflow_add-mid : goal.overflow_add-mid
 overflow_add-mid c = omega arith
 
 pub offset_bounds-starts-mid : goal.offset_bounds-starts-mid
-offset_bounds-starts-mid c = omega (arith, c.good)
+offset_bounds-starts-mid c = omega (arith, c.well_formed)
 
 pub bounds-starts-mid : goal.bounds-starts-mid
 bounds-starts-mid c = omega arith
@@ -52,7 +52,7 @@ head_order-o-requires c =
     let d = c in
     let a = d in
     ap (λ (x : ℕ). is_form (drop x a.args.sheet.now)) c.wide-at.ensures
-    ∙ indexed-form a.args.sheet.now a.args.starts.now (d.loop-lo.lo + (d.loop-lo.hi - d.loop-lo.lo) / 2) a.pre.0 (omega (arith, c.loop-lo-test.true, d.loop-lo.invariant.1, d.loop-lo.invariant.2, a.pre.2))
+    ∙ indexed-form a.args.sheet.now a.args.starts.now (d.loop-lo.lo + (d.loop-lo.hi - d.loop-lo.lo) / 2) a.requires.0 (omega (arith, c.loop-lo-test.true, d.loop-lo.invariant.1, d.loop-lo.invariant.2, a.requires.2))
 
 pub overflow_add-lo : goal.overflow_add-lo
 overflow_add-lo c = omega arith

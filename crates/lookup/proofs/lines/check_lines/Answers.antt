@@ -89,7 +89,7 @@ unfolding Room
 more c =
     let d = c in
     let b = d in
-    omega (arith, (form c).longer, (form c).ranges, d.loop-next.invariant.3, d.loop-next.invariant.4, b.requires d.if-s-gt-SHEET_BYTES.false)
+    omega (arith, (form c).longer, (form c).fits, d.loop-next.invariant.3, d.loop-next.invariant.4, b.requires d.if-s-gt-SHEET_BYTES.false)
 
 pub overflow_cast-out : goal.overflow_cast-out
 overflow_cast-out c = let l = c in let d = l in omega (arith, (form (goal.at.overflow_cast-out c).In-Form).inside, d.if-s-gt-SHEET_BYTES.false)

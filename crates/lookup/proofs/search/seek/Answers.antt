@@ -38,7 +38,7 @@ pub overflow_add-mid : goal.overflow_add-mid
 overflow_add-mid c = omega arith
 
 pub offset_bounds-starts-mid : goal.offset_bounds-starts-mid
-offset_bounds-starts-mid c = omega (arith, c.well-formed)
+offset_bounds-starts-mid c = omega (arith, c.well_formed)
 
 pub bounds-starts-mid : goal.bounds-starts-mid
 bounds-starts-mid c = omega arith

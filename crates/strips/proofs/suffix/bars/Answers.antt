@@ -1,0 +1,32 @@
+-- `strips::suffix::bars` meets its contract: the tests stand in the definition's order. Assumes nothing.
+use mathlib.Core.Path.{sym, ◌∙◌}
+use borrow.Author.Tests.{not-true, not-false}
+use Rattle.strips.proofs.Returns.{keeps_no_pronoun, keeps_spelled, keeps_first, keeps_second}
+use borrow.Author.Rules.{rules}
+use Rattle.strips.proofs.suffix.bars.Goals as goal
+
+pub returns-then-not-pronoun : goal.returns-then-not-pronoun
+returns-then-not-pronoun c =
+    let a = c.args in
+    keeps_no_pronoun a.pronoun a.spelled a.suffix.now (c.if-not-pronoun.true)
+
+pub returns-then-spelled : goal.returns-then-spelled
+returns-then-spelled c =
+    let a = c.args in
+    keeps_spelled a.pronoun a.spelled a.suffix.now c.if-spelled.true
+
+pub returns-then-same : goal.returns-then-same
+returns-then-same c =
+    let d = c in
+    let a = d.args in
+    keeps_first a.pronoun a.spelled a.suffix.now (d.if-not-pronoun.false) d.if-spelled.false
+    (sym c.same.ensures ∙ c.if-same.true)
+
+pub returns : goal.returns
+returns c =
+    let e = c in
+    let d = e in
+    let a = d.args in
+    c.same-2.ensures
+    ∙ keeps_second a.pronoun a.spelled a.suffix.now (d.if-not-pronoun.false) d.if-spelled.false
+    (sym e.same.ensures ∙ e.if-same.false)
