@@ -89,7 +89,7 @@ module _ (s : List ℕ) where
   unfolding findings_at finding_lines
   lines-size last [] g = omega arith
   lines-size last (at ∷ places) g =
-      let r = one_size at (fault_at s at) (findings_at s places) _ (value_long (reply s) (line_at s at) (form_meant (drop at s) g.0)) (lines-size _ places g.2) in
+      let r = one_size at (fault_at s at) (findings_at s places) _ (value_long (reply s) (line_at s at) (form_meant (drop at s) g.0)) (lines-size (key (line_at s at)) places g.2) in
       simp length-append r
 
   one_more : (at : ℕ) (f : Fault) (rest : List Finding) → length (found at f ++ rest) ≤ suc (length rest)

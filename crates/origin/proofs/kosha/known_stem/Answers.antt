@@ -1,0 +1,9 @@
+-- `kosha::known_stem` meets its contract: a word that can end in no suffix has no remainder. Assumes nothing.
+use mathlib.Core.Path.{sym, ◌∙◌}
+use borrow.Author.Tests.{not-true}
+use borrow.Author.Rules.{rules}
+use Rattle.origin.proofs.Ruled.{no-stem}
+use Rattle.origin.proofs.kosha.known_stem.Goals as goal
+
+pub returns-then-not-may_strip : goal.returns-then-not-may_strip
+returns-then-not-may_strip c = no-stem _ _ (sym c.may_strip.ensures ∙ not-true _ c.if-not-may_strip.true)

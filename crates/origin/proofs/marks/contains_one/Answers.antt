@@ -1,0 +1,44 @@
+-- `marks::contains_one` meets its contract: what stands before the place begins with none of the texts. Assumes nothing.
+use mathlib.Core.Path.{◌≡◌, refl, sym, ap, ◌∙◌}
+use mathlib.Core.Bool.{Bool, true, false}
+use mathlib.Core.List.{List}
+use Prim.Native.Nat.{ℕ, ◌-◌, ◌≤◌}
+use native.Mathlib.Omega.{arith}
+use lib.ListN.{length, drop}
+use borrow.Author.Rules.{rules}
+use Rattle.origin.specs.Marks.{contains, some, cut, contains_one, begins_one}
+use Rattle.origin.proofs.Ruled.{found_at, next_at, none_at_end}
+use Rattle.origin.proofs.marks.contains_one.Goals as goal
+
+pub loop-i-init : goal.loop-i-init
+unfolding contains_one
+loop-i-init c = (omega arith, refl)
+
+pub opens_one-requires : goal.opens_one-requires
+opens_one-requires c = let p = c.requires in (omega arith, p.0, p.1)
+
+pub returns-then-opens_one : goal.returns-then-opens_one
+returns-then-opens_one c =
+    let o = c in
+    let d = o in
+    let a = d.args in
+    sym (d.loop-i.invariant.1 ∙ found_at (cut a.texts.now a.starts.now) a.word.now d.loop-i.i (omega arith) (sym o.opens_one.ensures ∙ c.if-opens_one.true))
+
+pub overflow_add-i : goal.overflow_add-i
+overflow_add-i c = omega arith
+
+pub loop-i-smaller : goal.loop-i-smaller
+loop-i-smaller c = omega arith
+
+pub loop-i-preserved : goal.loop-i-preserved
+loop-i-preserved c =
+    let o = c in
+    let d = o in
+    let a = d.args in
+    (omega arith, d.loop-i.invariant.1 ∙ next_at (cut a.texts.now a.starts.now) a.word.now d.loop-i.i (omega arith) (sym o.opens_one.ensures ∙ c.if-opens_one.false))
+
+pub returns : goal.returns
+returns c =
+    let d = c in
+    let b = d in
+    sym (d.loop-i.invariant.1 ∙ none_at_end (cut b.args.texts.now b.args.starts.now) b.args.word.now d.loop-i.i b.requires.1 c.loop-i-test.false)

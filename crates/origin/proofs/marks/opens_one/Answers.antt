@@ -1,0 +1,23 @@
+-- `marks::opens_one` meets its contract: where no mark can begin, none of the texts does. Assumes nothing.
+use mathlib.Core.Path.{◌≡◌, sym, ap, ◌∙◌}
+use mathlib.Core.List.{List}
+use Prim.Native.Nat.{ℕ}
+use native.Mathlib.Omega.{arith}
+use lib.ListN.{drop}
+use borrow.Author.Tests.{not-true}
+use borrow.Author.Rules.{rules}
+use Rattle.origin.specs.Marks.{cut, begins_one}
+use Rattle.origin.proofs.Marked.{rest_lent}
+use Rattle.origin.proofs.Ruled.{none_begin}
+use Rattle.origin.proofs.marks.opens_one.Goals as goal
+
+pub returns-then-not-may_open : goal.returns-then-not-may_open
+returns-then-not-may_open c =
+    let m = c in
+    let b = m in
+    sym (none_begin (cut b.args.texts.now b.args.starts.now) (drop b.args.i b.args.word.now) b.requires.2 (sym m.may_open.ensures ∙ not-true _ c.if-not-may_open.true))
+
+pub returns : goal.returns
+returns c =
+    let b = c.args in
+    c.begins_one.ensures ∙ ap (begins_one (cut b.texts.now b.starts.now)) (rest_lent b.word.now b.i)

@@ -1,0 +1,41 @@
+-- `quick::may_mark` meets its contract: what stands before has no mark. Assumes nothing.
+use Prim.Native.Nat.{ℕ, ◌-◌, ◌≤◌}
+use native.Mathlib.Omega.{arith}
+use mathlib.Core.Path.{◌≡◌, refl, sym, ◌∙◌}
+use mathlib.Core.Bool.{true, false}
+use lib.ListN.{length, drop}
+use borrow.Author.Rules.{rules}
+use Rattle.origin.specs.Quick.{may_open, somewhere, may_mark}
+use Rattle.origin.proofs.Ruled.{some_at, some_end}
+use Rattle.origin.proofs.quick.may_mark.Goals as goal
+
+pub loop-i-init : goal.loop-i-init
+loop-i-init c = (omega arith, refl)
+
+pub returns-then-may_open : goal.returns-then-may_open
+unfolding may_mark
+returns-then-may_open c =
+    let o = c in
+    let d = o in
+    let a = d.args in
+    sym (d.loop-i.invariant.1 ∙ some_at may_open a.word.now d.loop-i.i true (omega arith) (sym c.if-may_open.true ∙ o.may_open.ensures))
+
+pub overflow_add-i : goal.overflow_add-i
+overflow_add-i c = omega arith
+
+pub loop-i-smaller : goal.loop-i-smaller
+loop-i-smaller c = omega arith
+
+pub loop-i-preserved : goal.loop-i-preserved
+loop-i-preserved c =
+    let o = c in
+    let d = o in
+    let a = d.args in
+    (omega arith, d.loop-i.invariant.1 ∙ some_at may_open a.word.now d.loop-i.i false (omega arith) (sym c.if-may_open.false ∙ o.may_open.ensures))
+
+pub returns : goal.returns
+unfolding may_mark
+returns c =
+    let d = c in
+    let a = d.args in
+    sym (d.loop-i.invariant.1 ∙ some_end may_open a.word.now d.loop-i.i c.loop-i-test.false)

@@ -1,0 +1,9 @@
+-- `find::has_supported_progressive_form` meets its contract: a form is found where there is one. Assumes nothing.
+use borrow.Author.Rules.{rules}
+use Rattle.progressive.proofs.Forms.{found-form}
+use Rattle.progressive.proofs.find.has_supported_progressive_form.Goals as goal
+
+pub returns : goal.returns
+returns c =
+    let a = c.args in
+    found-form a.sheet.now a.piece.now _ c.find_progressive-form.ensures

@@ -1,0 +1,83 @@
+-- `find::regular_lemma` meets its contract: the names are asked in their order, and the first verb is given. Assumes nothing.
+use mathlib.Core.Path.{◌≡◌, sym, ◌∙◌, subst}
+use mathlib.Core.List.{◌++◌}
+use borrow.Author.Rules.{rules}
+use borrow.Author.Tests.{not-true, not-false}
+use Rattle.progressive.specs.Progressive.{letter_u, Lemma, verb_or, regular}
+use Rattle.sheet.specs.Forms.{syllable_nu}
+use Rattle.sheet.specs.Replies.{reply}
+use Rattle.progressive.specs.Found.{LemmaAt}
+use Rattle.progressive.proofs.Verbs.{last, after_closed, after_open, open_found, open_next, closed_found, closed_next, without_vowel, with_vowel, verb-first, verb_next}
+use Rattle.progressive.proofs.find.regular_lemma.Goals as goal
+use Rattle.progressive.proofs.find.regular_lemma.Lts.View.{up-Else-open}
+use Rattle.progressive.proofs.find.regular_lemma.Goals.{Else-closed, Else-not-ends_in_aa, Else-open}
+
+-- stem+नु is no verb
+opened : (c : Else-open) →
+    let a = c.args in
+    regular (reply a.sheet.now) a.linked.now a.stem.now ≡ after_open a.sheet.now a.linked.now a.stem.now
+opened c =
+    let a = c.args in
+    open_next a.sheet.now a.linked.now a.stem.now _ c.verb_at-open.ensures c.if-open.false
+
+-- nor is stem+्नु
+shut : (c : Else-closed) →
+    let a = c.args in
+    regular (reply a.sheet.now) a.linked.now a.stem.now ≡ after_closed a.sheet.now a.linked.now a.stem.now
+shut c =
+    let d = c in
+    let a = d.args in
+    opened (up-Else-open _ _ _ c.before.before.before.before.before) ∙ closed_next a.sheet.now a.linked.now a.stem.now _ c.verb_at-closed.ensures c.if-closed.false
+
+-- the stem ends in ा or आ
+vowels : (c : Else-not-ends_in_aa) →
+    let a = c.args in
+    after_closed a.sheet.now a.linked.now a.stem.now
+    ≡ verb_or (reply a.sheet.now) (a.stem.now ++ (letter_u ++ syllable_nu)) (last a.sheet.now a.linked.now a.stem.now)
+vowels c =
+    let a = c.args in
+    with_vowel a.sheet.now a.linked.now a.stem.now (sym c.ends_in_aa.ensures ∙ c.if-not-ends_in_aa.false)
+
+pub returns-then-open : goal.returns-then-open
+returns-then-open c =
+    let b = c in
+    let a = b.args in
+    open_found a.sheet.now a.linked.now a.stem.now _ b.verb_at-open.ensures c.if-open.true
+
+pub returns-then-closed : goal.returns-then-closed
+returns-then-closed c =
+    let b = c in
+    let d = b in
+    let a = d.args in
+    let s = a.sheet.now in
+    subst (λ (l : Lemma). LemmaAt s l b.verb_at-closed.result) (sym (opened (goal.at.returns-then-closed c).Else-open)) (closed_found s a.linked.now a.stem.now _ b.verb_at-closed.ensures c.if-closed.true)
+
+pub returns-then-not-ends_in_aa : goal.returns-then-not-ends_in_aa
+returns-then-not-ends_in_aa c =
+    let t = c in
+    let d = t in
+    let a = d.args in
+    let s = a.sheet.now in
+    let e = without_vowel s a.linked.now a.stem.now (sym t.ends_in_aa.ensures ∙ t.if-not-ends_in_aa.true) in
+    subst (λ (l : Lemma). LemmaAt s l c.verb_at.result) (sym (shut (goal.at.returns-then-not-ends_in_aa c).Else-closed ∙ e)) c.verb_at.ensures
+
+pub returns-then-vowel : goal.returns-then-vowel
+returns-then-vowel c =
+    let b = c in
+    let t = b in
+    let d = t in
+    let a = d.args in
+    let s = a.sheet.now in
+    let r = b.verb_at-vowel.result in
+    subst (λ (l : Lemma). LemmaAt s l r) (sym (shut (goal.at.returns-then-vowel c).Else-closed ∙ vowels (goal.at.returns-then-vowel c).Else-not-ends_in_aa)) (verb-first s r _ (last s a.linked.now a.stem.now) b.verb_at-vowel.ensures c.if-vowel.true)
+
+pub returns : goal.returns
+returns c =
+    let f = c in
+    let b = f in
+    let t = b in
+    let d = t in
+    let a = d.args in
+    let s = a.sheet.now in
+    let e = verb_next s b.verb_at-vowel.result _ (last s a.linked.now a.stem.now) b.verb_at-vowel.ensures f.if-vowel.false in
+    subst (λ (l : Lemma). LemmaAt s l c.verb_at-2.result) (sym (shut (goal.at.returns c).Else-closed ∙ vowels (goal.at.returns c).Else-not-ends_in_aa ∙ e)) c.verb_at-2.ensures

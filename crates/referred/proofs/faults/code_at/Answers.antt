@@ -1,0 +1,27 @@
+-- `faults::code_at` meets its contract: a form stands at each start. Assumes nothing.
+use Prim.Native.Nat.{ℕ}
+use mathlib.Core.Path.{ap, ◌∙◌}
+use Rattle.lookup.proofs.Settled.{indexed-form}
+use Rattle.referred.specs.Report.{fault_at}
+use Rattle.referred.specs.Codes.{code_for}
+use Rattle.referred.proofs.Refers.{start_small}
+use borrow.Author.Rules.{rules}
+use Rattle.referred.proofs.faults.code_at.Goals as goal
+
+pub line_fault-requires : goal.line_fault-requires
+line_fault-requires c =
+    let p = c.requires in
+    (p.0, p.1, rw c.wide-at.ensures (indexed-form _ _ _ p.0 p.2))
+
+pub code_of-requires : goal.code_of-requires
+code_of-requires c =
+    let w = c in
+    let p = w.requires in
+    rw w.wide-at.ensures (start_small _ _ _ p.0 p.2)
+
+pub returns : goal.returns
+returns c =
+    let l = c in
+    let w = l in
+    let a = w.args in
+    c.code_of.ensures ∙ ap (code_for w.wide-at.result) l.line_fault.ensures ∙ ap (λ (x : ℕ). code_for x (fault_at a.sheet.now x)) w.wide-at.ensures

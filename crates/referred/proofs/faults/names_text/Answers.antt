@@ -1,0 +1,33 @@
+-- `faults::names_text` meets its contract: the line is compared with the question for the text. Assumes nothing.
+use native.Mathlib.Omega.{arith}
+use Rattle.sheet.specs.Forms.{key}
+use Rattle.sheet.specs.Lines.{line_at}
+use Rattle.tables.proofs.Laid.{laid-asks}
+use Rattle.referred.proofs.Refers.{named-told}
+use Rattle.tables.proofs.Facts.{affix_count}
+use borrow.Author.Rules.{rules}
+use Rattle.referred.proofs.faults.names_text.Goals as goal
+
+pub row-requires : goal.row-requires
+row-requires c = laid-asks c.requires.1 _ (omega (arith, affix_count))
+
+pub returns-in-Less : goal.returns-in-Less
+returns-in-Less c =
+    let o = c in
+    let r = o in
+    let a = r in
+    named-told (key (line_at a.args.sheet.now a.args.at)) _ _ _ _ _ _ a.requires.1 a.requires.2 r.row.ensures o.line_order-order.ensures c.in-Less.is
+
+pub returns-in-Equal : goal.returns-in-Equal
+returns-in-Equal c =
+    let o = c in
+    let r = o in
+    let a = r in
+    named-told (key (line_at a.args.sheet.now a.args.at)) _ _ _ _ _ _ a.requires.1 a.requires.2 r.row.ensures o.line_order-order.ensures c.in-Equal.is
+
+pub returns-in-Greater : goal.returns-in-Greater
+returns-in-Greater c =
+    let o = c in
+    let r = o in
+    let a = r in
+    named-told (key (line_at a.args.sheet.now a.args.at)) _ _ _ _ _ _ a.requires.1 a.requires.2 r.row.ensures o.line_order-order.ensures c.in-Greater.is

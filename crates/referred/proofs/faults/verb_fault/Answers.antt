@@ -1,0 +1,35 @@
+-- `faults::verb_fault` meets its contract: whether the verb has a line, and whether that has v. Assumes nothing.
+use mathlib.Core.Path.{ap}
+use borrow.Author.Tests.{not-true, not-false}
+use Rattle.lookup.specs.Answers.{ValueOf}
+use Rattle.lookup.proofs.Parts.{one-part, unread}
+use Rattle.referred.specs.Report.{verb_fault}
+use Rattle.referred.proofs.Refers.{verb_read}
+use borrow.Author.Rules.{rules}
+use Rattle.referred.proofs.faults.verb_fault.Goals as goal
+use Rattle.referred.proofs.faults.verb_fault.Goals.{After-value_of-v}
+
+-- what is said of the value found
+value : (c : After-value_of-v) →
+    let a = c.args in
+    ValueOf a.sheet.now 0x77 a.infinitive.now c.value_of-v.result
+value c =
+    let a = c.args in
+    one-part a.sheet.now 0x77 a.infinitive.now _ c.value_of-v.ensures
+
+pub returns-then-not-v : goal.returns-then-not-v
+returns-then-not-v c =
+    let v = c in
+    ap verb_fault (unread _ 0x77 _ _ (value (goal.at.returns-then-not-v c).After-value_of-v) (not-true _ c.if-not-v.true))
+
+pub returns-then-letters : goal.returns-then-letters
+returns-then-letters c =
+    let r = c in
+    let e = r in
+    verb_read _ _ _ (value (goal.at.returns-then-letters c).After-value_of-v) (not-false _ e.if-not-v.false) _ _ r.read_letters-letters.ensures c.if-letters.true
+
+pub returns : goal.returns
+returns c =
+    let r = c in
+    let e = r in
+    verb_read _ _ _ (value (goal.at.returns c).After-value_of-v) (not-false _ e.if-not-v.false) _ _ r.read_letters-letters.ensures c.if-letters.false

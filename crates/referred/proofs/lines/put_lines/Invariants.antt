@@ -1,0 +1,14 @@
+-- `lines::put_lines` meets its contract: the lines put so far and those to come are all of them. Assumes nothing.
+use Prim.Native.Nat.{◌-◌, ◌≤◌}
+use native.Mathlib.Omega.{arith}
+use lib.ListN.{length, drop}
+use Rattle.writing.proofs.Puts.{Upto, upto-none, upto-more, upto_all}
+use Rattle.referred.specs.Coded.{code_lines}
+use Rattle.referred.proofs.Found.{form-there, lines_turn, lines_end}
+use Rattle.referred.proofs.lines.put_lines.Given as goal
+
+abbrev pub invariant-loop-i : goal.invariant-loop-i
+invariant-loop-i l = (l.i ≤ length l.codes) × Upto l.initial.out l.out l.at l.next (code_lines l.sheet l.codes) (code_lines l.sheet (drop l.i l.codes))
+
+abbrev pub decreases-loop-i : goal.decreases-loop-i
+decreases-loop-i l = length l.codes - l.i
