@@ -6,4 +6,4 @@ use Rattle.origin.proofs.Ruled.{not_listed}
 use Rattle.origin.proofs.listed.Goals as goal
 
 pub returns-then-not-may_list : goal.returns-then-not-may_list
-returns-then-not-may_list c = not_listed _ (sym c.may_list.ensures ∙ not-true _ c.if-not-may_list.true)
+returns-then-not-may_list c = not_listed _ (sym c.may_list.ensures ∙ c.if-not-may_list.true)

@@ -6,4 +6,4 @@ use Rattle.origin.proofs.Ruled.{no-stem}
 use Rattle.origin.proofs.kosha.known_stem.Goals as goal
 
 pub returns-then-not-may_strip : goal.returns-then-not-may_strip
-returns-then-not-may_strip c = no-stem _ _ (sym c.may_strip.ensures ∙ not-true _ c.if-not-may_strip.true)
+returns-then-not-may_strip c = no-stem _ _ (sym c.may_strip.ensures ∙ c.if-not-may_strip.true)

@@ -11,7 +11,7 @@ pub returns-then-not-may_mark : goal.returns-then-not-may_mark
 unfolding heuristic_of
 returns-then-not-may_mark c =
     let m = c in
-    let e = sym m.may_mark.ensures ∙ not-true _ c.if-not-may_mark.true in
+    let e = sym m.may_mark.ensures ∙ c.if-not-may_mark.true in
     rw (no_aagantuk _ e, no_tatsam _ e) c.by_end.ensures
 
 pub returns-then-has_aagantuk_markers : goal.returns-then-has_aagantuk_markers

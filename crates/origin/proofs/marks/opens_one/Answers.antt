@@ -15,7 +15,7 @@ pub returns-then-not-may_open : goal.returns-then-not-may_open
 returns-then-not-may_open c =
     let m = c in
     let b = m in
-    sym (none_begin (cut b.args.texts.now b.args.starts.now) (drop b.args.i b.args.word.now) b.requires.2 (sym m.may_open.ensures ∙ not-true _ c.if-not-may_open.true))
+    sym (none_begin (cut b.args.texts.now b.args.starts.now) (drop b.args.i b.args.word.now) b.requires.2 (sym m.may_open.ensures ∙ c.if-not-may_open.true))
 
 pub returns : goal.returns
 returns c =
