@@ -81,9 +81,9 @@ drop-front (suc m) (suc n) (x ∷ l) = let z : suc n - suc m ≡ n - m = omega a
 -- what stands behind byte `to` is moved behind the text, and the text is copied into its place
 pub replaced : (old text moved part : List ℕ) (from to used : ℕ) → from ≤ to → to ≤ used → used ≤ length old → from + length text + (used - to) ≤ length old
     → moved ≡ paste old (from + length text) (drop to old) (used - to)
-    → part ≡ take (length text) text ++ drop (length text) (mid_of from (from + length text - from) moved)
+    → part ≡ text
     → put_mid from (from + length text - from) moved part ≡ (take from old ++ (text ++ take (used - to) (drop to old))) ++ drop (from + length text + (used - to)) old
-replaced old text moved part from to used a b c d e p =
+replaced old text moved part from to used a b c d e q =
     let end = from + length text in
     let n = used - to in
     let t = take n (drop to old) in
@@ -91,9 +91,6 @@ replaced old text moved part from to used a b c d e p =
     let i : n ≤ length (drop to old) = omega (arith, length-drop to old) in
     let x : length moved ≡ length old = ap length e ∙ length-paste old end (drop to old) n (omega arith) i in
     let k : end - from ≡ length text = omega arith in
-    let m : length (mid_of from (end - from) moved) ≡ length text = mid_len from end moved (omega arith) ∙ k in
-    let z : drop (length text) (mid_of from (end - from) moved) ≡ [] = ap (λ (j : ℕ). drop j (mid_of from (end - from) moved)) (sym m) ∙ drop-length (mid_of from (end - from) moved) in
-    let q : part ≡ text = p ∙ ap (λ (y : List ℕ). y ++ drop (length text) (mid_of from (end - from) moved)) (take-length text) ∙ ap (λ (y : List ℕ). text ++ y) z ∙ append-nil text in
     let u : drop end moved ≡ t ++ rest = ap (drop end) (e ∙ append_assoc (take end old) t rest) ∙ drop_at (take end old) (t ++ rest) end (length-take-le end old (omega arith)) in
     let v : take from moved ≡ take from old =
     ap (take from) (e ∙ append_assoc (take end old) t rest) ∙ front_of from end old (t ++ rest) (omega arith) (omega arith) in

@@ -14,8 +14,8 @@ use Rattle.corrected.proofs.place.find_in_lines.Goals as goal
 use Rattle.corrected.proofs.place.find_in_lines.Goals.{In-Single}
 
 -- what is known of the given line
-told : (c : In-Single) → let l = c.args.line.now in let g = c.given-1.given.0 in
-    (is_single l ≡ true) × (g.0 ≡ (entry_of l).letter) × (g.1.0 ≡ 3 + length (entry_of l).name)
+told : (c : In-Single) → let l = c.args.line.now in
+    (is_single l ≡ true) × (c.in-Single.letter ≡ (entry_of l).letter) × (c.in-Single.name_end ≡ 3 + length (entry_of l).name)
 told c = let g = c in single_told g.args.line.now _ _ (sym c.in-Single.is ∙ g.read_given-given.ensures)
 
 pub slice_bounds-span_of-count : goal.slice_bounds-span_of-count

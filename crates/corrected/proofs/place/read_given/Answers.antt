@@ -7,8 +7,7 @@ use Rattle.corrected.proofs.place.read_given.Goals as goal
 use Rattle.corrected.proofs.place.read_given.Goals.{In-Form}
 
 -- what the walk tells of a form
-told : (c : In-Form) → let a = c.args in let g = c.read-1.given.0 in
-    ToldFirst a.line.now (Form g.0 g.1.0 g.1.1.0 g.1.1.1.0)
+told : (c : In-Form) → let a = c.args in ToldFirst a.line.now (Form c.in-Form.letter c.in-Form.name_end c.in-Form.value_end c.in-Form.next)
 told c = let t = c in first-told t.args.line.now _ (sym c.in-Form.is ∙ t.step-read.ensures)
 
 pub returns-then-next-line : goal.returns-then-next-line

@@ -9,4 +9,4 @@ returns c =
     let m = p in
     let b = m in
     let a = b.args in
-    replaced a.buf.now a.text.now _ _ a.from a.to a.used b.requires.0 b.requires.1 b.requires.2 b.requires.3 m.shift.ensures p.copy.ensures.1
+    replaced a.buf.now a.text.now _ _ a.from a.to a.used b.requires.0 b.requires.1 b.requires.2 b.requires.3 m.shift.ensures p.copy_from_slice.ensures.after

@@ -1,0 +1,19 @@
+-- `ranking::kept::store` meets its contract: too many, or one more in its place. Assumes nothing.
+use native.Mathlib.Omega.{arith}
+use mathlib.Core.Path.{◌≡◌}
+use Rattle.ranking.proofs.Puts.{kept_full, kept-room}
+use borrow.Author.Rules.{rules}
+use Rattle.ranking.proofs.kept.store.Goals as goal
+
+pub returns-then-n-ge-LIMIT : goal.returns-then-n-ge-LIMIT
+returns-then-n-ge-LIMIT c =
+    let a = c.args in
+    (kept_full a.word.now a.out.now a.out.now a.n a.r c.if-n-ge-LIMIT.true, omega arith)
+
+pub returns : goal.returns
+returns c =
+    let i = c in
+    let p = i in
+    let e = p in
+    let a = e.args in
+    (kept-room a.word.now a.out.now _ a.n a.r p.place-at.result (omega (arith, e.if-n-ge-LIMIT.false)) p.place-at.ensures.0 i.insert_at.ensures, omega (arith, e.if-n-ge-LIMIT.false))

@@ -1,0 +1,15 @@
+-- `ranking::rows::row_at` meets its contract: the part of the buffer is the row. Assumes nothing.
+use Prim.Native.Nat.{ℕ, ◌+◌, ◌-◌, ◌*◌}
+use native.Mathlib.Omega.{arith}
+use mathlib.Core.Path.{◌≡◌, ap, ◌∙◌}
+use lib.ListN.{take, drop}
+use Rattle.ranking.specs.Stored.{reading_at, reading_width}
+use Rattle.ranking.proofs.Backs.{row_read}
+use borrow.Author.Rules.{rules}
+use Rattle.ranking.proofs.rows.row_at.Goals as goal
+
+pub returns : goal.returns
+returns c =
+    let a = c in
+    let k : reading_width * a.args.i + reading_width - reading_width * a.args.i ≡ reading_width = omega arith in
+    c.get_reading.ensures ∙ ap (λ (n : ℕ). reading_at (take n (drop (reading_width * a.args.i) a.args.out.now))) k ∙ row_read a.args.out.now a.args.i a.requires.1

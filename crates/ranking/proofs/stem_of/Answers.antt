@@ -1,0 +1,12 @@
+-- `ranking::stem_of` meets its contract: the front part of the word. Assumes nothing.
+use Prim.Native.Nat.{ℕ}
+use mathlib.Core.Path.{◌≡◌, ap, ◌∙◌}
+use borrow.Author.Rules.{rules}
+use Rattle.ranking.specs.Parts.{part}
+use Rattle.ranking.proofs.stem_of.Goals as goal
+
+pub returns : goal.returns
+returns c =
+    let p = c in
+    let a = p.args in
+    c.part_of.ensures ∙ ap (λ (n : ℕ). part a.word.now 0 n) p.wide-to.ensures
