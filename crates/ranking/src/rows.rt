@@ -118,7 +118,7 @@ pub fn put_reading(r: Reading, out: &mut [u8])
         r.prefix_count,
         r.suffix_count,
     ];
-    out.copy_from_slice(&all);
+    out[..WIDTH].copy_from_slice(&all);
 }
 
 // The segment that stands from the i-th byte on.

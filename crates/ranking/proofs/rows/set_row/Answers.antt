@@ -9,6 +9,6 @@ pub returns : goal.returns
 returns c =
     let p = c in
     let a = p in
-    let l : length a.args.r.prefixes ≡ 2 = simp length-map at a.well_formed.0.1.1.1.1.1.0.1.0.1 in
-    let m : length a.args.r.segments ≡ 4 = simp length-map at a.well_formed.0.1.1.1.1.1.1.0.1.0.1 in
+    let l : length a.args.r.prefixes ≡ 2 = a.well_formed.0.1.1.1.1.1.0.1.0.1 in
+    let m : length a.args.r.segments ≡ 4 = a.well_formed.0.1.1.1.1.1.1.0.1.0.1 in
     row-set a.args.out.now _ a.args.i a.args.r a.requires.0 a.requires.1 l m p.put_reading.ensures
