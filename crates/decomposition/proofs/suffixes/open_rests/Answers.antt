@@ -1,0 +1,25 @@
+-- `suffixes::open_rests` meets its contract: the rule of pronouns by the letters of the piece. Assumes nothing.
+use mathlib.Core.Path.{◌≡◌, sym, ◌∙◌}
+use Rattle.sheet.specs.Replies.{reply}
+use Rattle.decomposition.specs.Strips.{is_kept}
+use Rattle.decomposition.proofs.Taken.{open_none, open_kept, open_free, kept}
+use borrow.Author.Rules.{rules}
+use Rattle.decomposition.proofs.suffixes.open_rests.Goals as goal
+use Rattle.decomposition.proofs.suffixes.open_rests.Goals.{After-bars}
+
+pub returns-then-rests-eq0 : goal.returns-then-rests-eq0
+returns-then-rests-eq0 c = let r = c in let a = r.args in open_none (reply a.sheet.now) a.piece.now a.suffix.now r.suffix_rests-rests.result r.suffix_rests-rests.ensures c.if-rests-eq0.true
+
+-- whether the rule keeps the piece
+barred : (c : After-bars) →
+    let a = c.args in
+    c.bars.result ≡ is_kept (reply a.sheet.now) a.piece.now a.suffix.now
+barred c =
+    let a = c.args in
+    kept a.sheet.now a.piece.now a.suffix.now c.letters_of-own.result c.bars.result c.letters_of-own.ensures c.bars.ensures
+
+pub returns-then-bars : goal.returns-then-bars
+returns-then-bars c = open_kept _ _ _ (sym (barred (goal.at.returns-then-bars c).After-bars) ∙ c.if-bars.true)
+
+pub returns : goal.returns
+returns c = let r = c in open_free _ _ _ r.suffix_rests-rests.result (sym (barred (goal.at.returns c).After-bars) ∙ c.if-bars.false) r.suffix_rests-rests.ensures
