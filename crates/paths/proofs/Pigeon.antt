@@ -13,15 +13,18 @@ use Rattle.paths.specs.Counted.{Distinct, AtLeast}
 module _ {A : Type 0} where
   -- the list without one of its elements
   abbrev removed : {x : A} (es : List A) → Memᴰ x es → List A
+  removed [] m = elim m [ ]
   removed (e ∷ es) (Memᴰ.head p) = es
   removed (e ∷ es) (Memᴰ.tail m) = e ∷ removed es m
 
   removed_length : {x : A} (es : List A) (m : Memᴰ x es) → length es ≡ suc (length (removed es m))
+  removed_length [] m = elim m [ ]
   removed_length (e ∷ es) (Memᴰ.head p) = refl
   removed_length (e ∷ es) (Memᴰ.tail m) = ap suc (removed_length es m)
 
   -- all others are still there
   still_in : {x y : A} (es : List A) (m : Memᴰ x es) → Memᴰ y es → (x ≡ y → ⊥) → Memᴰ y (removed es m)
+  still_in [] m n d = elim m [ ]
   still_in (e ∷ es) (Memᴰ.head p) n d = ⊎_elim (λ q. absurd (d (p ∙ sym q))) (λ k. k) (Memᴰ.cases_cons n)
   still_in (e ∷ es) (Memᴰ.tail m) n d = ⊎_elim (λ q. Memᴰ.head q) (λ k. Memᴰ.tail (still_in es m k d)) (Memᴰ.cases_cons n)
 
