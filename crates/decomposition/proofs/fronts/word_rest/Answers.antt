@@ -23,10 +23,10 @@ pub slice_bounds-is_word-start : goal.slice_bounds-is_word-start
 slice_bounds-is_word-start c = inside (goal.at.slice_bounds-is_word-start c).In-From
 
 pub returns-then-is_word : goal.returns-then-is_word
-returns-then-is_word c = let w = c in let r = w in let p = r in let a = p.args in rest_known (reply a.sheet.now) a.word.now a.form.now r.in-From.n (sym r.in-From.is ∙ p.prefix_rest-rest.ensures) w.is_IsWord.result w.is_IsWord.ensures c.if-is_word.true
+returns-then-is_word c = let w = c in let r = w in let p = r in let a = p.args in rest_known (reply a.sheet.now) a.word.now a.form.now r.in-From.n (sym r.in-From.is ∙ p.prefix_rest-rest.ensures) w.is_word.result w.is_word.ensures c.if-is_word.true
 
 pub returns-in-Nothing : goal.returns-in-Nothing
 returns-in-Nothing c = let p = c in let a = p.args in rest-none (reply a.sheet.now) a.word.now a.form.now (sym c.in-Nothing.is ∙ p.prefix_rest-rest.ensures)
 
 pub returns-else-is_word : goal.returns-else-is_word
-returns-else-is_word c = let w = c in let r = w in let p = r in let a = p.args in rest-unknown (reply a.sheet.now) a.word.now a.form.now r.in-From.n (sym r.in-From.is ∙ p.prefix_rest-rest.ensures) w.is_IsWord.result w.is_IsWord.ensures c.if-is_word.false
+returns-else-is_word c = let w = c in let r = w in let p = r in let a = p.args in rest-unknown (reply a.sheet.now) a.word.now a.form.now r.in-From.n (sym r.in-From.is ∙ p.prefix_rest-rest.ensures) w.is_word.result w.is_word.ensures c.if-is_word.false

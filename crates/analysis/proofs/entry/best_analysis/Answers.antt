@@ -1,0 +1,13 @@
+-- `analysis::entry::best_analysis` meets its contract: the first of the rows, if there is one. Assumes nothing.
+use mathlib.Core.Path.{◌≡◌, ap, ◌∙◌}
+use mathlib.Core.List.{List}
+use lib.ListN.{take}
+use borrow.Author.Rules.{rules}
+use Rattle.ranking.specs.declared.Classified.{Classified}
+use Rattle.analysis.proofs.entry.best_analysis.Goals as goal
+
+pub returns : goal.returns
+returns c =
+    let f = c in
+    let k = f in
+    (k.analyze_affixes-analysis.ensures.0, f.first_of-reading.ensures ∙ ap (λ (x : List Classified). take 1 x) k.analyze_affixes-analysis.ensures.1)

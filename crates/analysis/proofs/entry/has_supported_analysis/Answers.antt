@@ -1,0 +1,31 @@
+-- `analysis::entry::has_supported_analysis` meets its contract, answer by answer. Assumes nothing.
+use Prim.Native.Nat.{ℕ}
+use mathlib.Core.Path.{◌≡◌, sym, ap, ◌∙◌}
+use mathlib.Core.Bool.{Bool}
+use mathlib.Core.List.{List}
+use borrow.Author.Rules.{rules}
+use Rattle.analysis.specs.declared.entry.Said.{Said}
+use Rattle.analysis.specs.Answers.{said_of, rows_given, is_some, has_by, has_of}
+use Rattle.analysis.proofs.Accepted.{some-rows}
+use Rattle.analysis.proofs.entry.has_supported_analysis.Goals as goal
+use Rattle.analysis.proofs.entry.has_supported_analysis.Goals.{After-best_analysis-best}
+
+-- what is said and whether there is a reading, by the answer
+module _ (c : After-best_analysis-best) where
+  abbrev w : List ℕ
+  w = c.args.word.now
+
+  abbrev s : List ℕ
+  s = c.args.sheet.now
+
+  has-by : (x : Said) → c.best_analysis-best.result.said ≡ x → has_by x c.best_analysis-best.result.some ≡ has_of w s
+  unfolding has_of
+  has-by x e =
+      ap (λ (y : Said). has_by y c.best_analysis-best.result.some) (sym e ∙ c.best_analysis-best.ensures.0)
+      ∙ ap (has_by (said_of w s)) (some-rows c.best_analysis-best.result (rows_given w s) c.best_analysis-best.ensures.1)
+
+pub returns-in-Refused : goal.returns-in-Refused
+returns-in-Refused c = let i = c in has-by (goal.at.returns-in-Refused c).After-best_analysis-best _ i.in-Refused.is
+
+pub returns-in-Listed : goal.returns-in-Listed
+returns-in-Listed c = has-by (goal.at.returns-in-Listed c).After-best_analysis-best _ c.in-Listed.is

@@ -1,0 +1,22 @@
+-- `analysis::entry::is_seven` meets its contract, by the numbers. Assumes nothing.
+use Prim.Native.Nat.{ℕ}
+use mathlib.Core.Path.{◌≡◌, sym, ap, ◌∙◌}
+use mathlib.Core.List.{List, [], ◌∷◌, head-eq_of_cons-eq}
+use lib.Dec.{eqb}
+use borrow.Author.Rules.{rules}
+use Rattle.refusals.specs.Refusals.{number, numbers_of, numbers_told}
+use Rattle.refusals.specs.declared.Numbers.{Numbers}
+use Rattle.analysis.proofs.entry.is_seven.Goals as goal
+
+-- the first of the numbers is the refusal's
+pub returns-in-Number : goal.returns-in-Number
+returns-in-Number c =
+    let i = c in
+    let n = i in
+    ap (λ (k : ℕ). eqb k 7) (head-eq_of_cons-eq (ap numbers_told (sym i.in-Number.is) ∙ n.numbers_of-numbers.ensures))
+
+pub returns-in-Placed : goal.returns-in-Placed
+returns-in-Placed c =
+    let i = c in
+    let n = i in
+    ap (λ (k : ℕ). eqb k 7) (head-eq_of_cons-eq (ap numbers_told (sym i.in-Placed.is) ∙ n.numbers_of-numbers.ensures))

@@ -1,0 +1,16 @@
+-- `analysis::fronts::may_begin` meets its contract: by the length, then by the third byte. Assumes nothing.
+use borrow.Author.Rules.{rules}
+use borrow.Author.Tests.{lt-ltb, le-ltb}
+use mathlib.Core.Path.{◌≡◌, sym, ap, ◌∙◌}
+use mathlib.Core.Bool.{Bool, false}
+use Rattle.runs.specs.Runs.{pick}
+use Rattle.analysis.specs.Fronts.{opens_form, may_begin}
+use Rattle.analysis.proofs.fronts.may_begin.Goals as goal
+
+pub returns-then-piece-lt3 : goal.returns-then-piece-lt3
+unfolding may_begin
+returns-then-piece-lt3 c = rw (lt-ltb _ _ c.if-piece-lt3.true)
+
+pub returns : goal.returns
+unfolding may_begin
+returns c = rw (le-ltb _ _ c.if-piece-lt3.false) c.opens_form.ensures

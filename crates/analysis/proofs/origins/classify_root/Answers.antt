@@ -1,0 +1,19 @@
+-- `origins::classify_root` meets its contract: the decision is asked of the reading's root. Assumes nothing.
+use Prim.Native.Nat.{ℕ}
+use mathlib.Core.Path.{◌≡◌, ap, ◌∙◌}
+use mathlib.Core.List.{List}
+use borrow.Author.Rules.{rules}
+use Rattle.sheet.specs.Replies.{reply}
+use Rattle.ranking.specs.Lists.{with_origin}
+use Rattle.origin.specs.Decisions.{decision_of}
+use Rattle.paths.specs.Readings.{classified}
+use Rattle.analysis.proofs.origins.classify_root.Goals as goal
+
+pub returns : goal.returns
+unfolding classified
+returns c =
+    let d = c in
+    let r = d in
+    let a = r.args in
+    c.with_origin.ensures
+    ∙ ap (with_origin a.reading) (d.decide_origin.ensures ∙ ap (decision_of (reply a.sheet.now)) r.root_of.ensures)

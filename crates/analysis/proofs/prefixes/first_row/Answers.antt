@@ -1,0 +1,163 @@
+-- `analysis::prefixes::first_row` meets its contract: nothing is left, or the root's reading and those of a second prefix are added. Assumes nothing.
+use Prim.Native.Nat.{ℕ, ◌+◌, ◌-◌, ◌<◌, ◌≤◌}
+use native.Mathlib.Omega.{arith}
+use mathlib.Core.Path.{◌≡◌, refl, sym, ap, ◌∙◌}
+use mathlib.Core.List.{List, [], ◌∷◌}
+use lib.ListN.{length, take, drop}
+use lib.Seq.{length-take-le}
+use Rattle.tables.specs.Rows.{prefix_forms}
+use Rattle.tables.proofs.Facts.{prefix_form_count}
+use Rattle.tables.proofs.Laid.{laid-asks, laid-row}
+use Rattle.strips.specs.Prefix.{prefix_remainder, rest_of}
+use Rattle.strips.specs.declared.prefix.Rest.{Rest}
+use Rattle.strips.specs.declared.prefix.Rest.TheVariants.{Nothing, From}
+use Rattle.strips.proofs.Remainders.{rest-inside}
+use Rattle.sheet.specs.Replies.{reply}
+use Rattle.ranking.specs.Lists.{Rows, plus_all}
+use Rattle.ranking.specs.Kept.{kept_of}
+use Rattle.ranking.specs.declared.Reading.{Reading}
+use Rattle.paths.specs.Chains.{all_forms, form_of}
+use Rattle.paths.specs.Walk.{root_walk, on_left, second_walk}
+use Rattle.paths.specs.Readings.{prefixes_of}
+use Rattle.analysis.specs.Places.{between, root_found}
+use Rattle.analysis.proofs.Cuts.{front-none, front-left, root_at}
+use Rattle.analysis.proofs.Turns.{second_none, second_bare, second_some}
+use Rattle.analysis.proofs.Opened.{no-forms}
+use Rattle.paths.specs.Visits.{total, prefix_visits}
+use Rattle.analysis.proofs.Visited.{left-none, left_one, prefix_none, prefix_bare, prefix_some, second_few}
+use borrow.Author.Rules.{rules}
+use borrow.Author.Tests.{not-true}
+use Rattle.analysis.proofs.prefixes.first_row.Goals as goal
+use Rattle.analysis.proofs.prefixes.first_row.Lts.View.{up-After-prefix_rest-rest, up-In-From}
+use Rattle.analysis.proofs.prefixes.first_row.Goals.{After-prefix_rest-rest, After-with_root-f, In-From}
+
+pub row-form-requires : goal.row-form-requires
+row-form-requires c = let a = c in laid-asks a.requires.0.forms-laid a.args.first (omega (arith, prefix_form_count, a.requires.2))
+
+abbrev piece : After-prefix_rest-rest → List ℕ
+piece c = take c.args.at.end c.args.word.now
+
+asked : (c : After-prefix_rest-rest) → c.prefix_rest-rest.result ≡ rest_of (piece c) (form_of c.args.first)
+asked c =
+    let a = c in
+    c.prefix_rest-rest.ensures ∙ ap (rest_of (piece c)) (c.row-form.ensures ∙ laid-row a.requires.0.forms-laid a.args.first (omega (arith, prefix_form_count, a.requires.2)))
+
+pub slice_bounds-prefix_rest-end : goal.slice_bounds-prefix_rest-end
+slice_bounds-prefix_rest-end c = let a = c in sym (length-take-le a.args.at.end a.args.word.now a.requires.1)
+
+-- the root begins inside the stem
+inside : (c : In-From) → c.in-From.root ≤ c.args.at.end
+inside c =
+    let p = c in
+    let a = p in
+    let n = rest-inside (piece (up-After-prefix_rest-rest _ _ _ c.before.before.before.before)) (form_of a.args.first) c.in-From.root (sym (asked (up-After-prefix_rest-rest _ _ _ c.before.before.before.before)) ∙ c.in-From.is) in
+    let l : length (piece (up-After-prefix_rest-rest _ _ _ c.before.before.before.before)) ≡ a.args.at.end = length-take-le a.args.at.end a.args.word.now a.requires.1 in
+    omega (arith, n)
+
+pub slice_bounds-has_supported_progressive_form-count : goal.slice_bounds-has_supported_progressive_form-count
+slice_bounds-has_supported_progressive_form-count c = inside (goal.at.slice_bounds-has_supported_progressive_form-count c).In-From
+
+pub slice_bounds-has_supported_progressive_form-start : goal.slice_bounds-has_supported_progressive_form-start
+slice_bounds-has_supported_progressive_form-start c = omega (arith, inside (goal.at.slice_bounds-has_supported_progressive_form-start c).In-From, c.requires.1)
+
+pub has_supported_progressive_form-progressive-requires : goal.has_supported_progressive_form-progressive-requires
+has_supported_progressive_form-progressive-requires c = c.requires.0.indexed
+
+pub with_root-f-requires : goal.with_root-f-requires
+with_root-f-requires c =
+    let r = c in
+    let a = r in
+    (a.requires.0.indexed, a.requires.0.texts_laid, inside (goal.at.with_root-f-requires c).In-From, a.requires.1, a.requires.0.short, a.requires.3, omega arith, a.requires.4, c.has_supported_progressive_form-progressive.ensures, a.requires.5)
+
+pub returns-in-Nothing : goal.returns-in-Nothing
+unfolding plus_all
+returns-in-Nothing c =
+    let p = c in
+    let a = p.args in (
+      sym (ap (λ (l : List (List ℕ)). plus_all a.word.now (kept_of a.out.now a.n) (on_left (second_walk (reply a.sheet.now) a.surface a.at.chain (take a.at.end a.word.now) a.first) l))
+          (front-none a.word.now a.at.end (form_of a.first) (sym c.in-Nothing.is ∙ asked (goal.at.returns-in-Nothing c).After-prefix_rest-rest))),
+      p.requires.5.1,
+      left-none (prefix_visits 1 (reply a.sheet.now)) (piece (goal.at.returns-in-Nothing c).After-prefix_rest-rest) (form_of a.first) (front-none a.word.now a.at.end (form_of a.first) (sym c.in-Nothing.is ∙ asked (goal.at.returns-in-Nothing c).After-prefix_rest-rest)),
+    )
+
+-- the prefix's own reading is kept, and the rest of the walk begins at what it leaves
+module _ (c : After-with_root-f) where
+  abbrev begun : tie.Start
+  begun = c
+
+  abbrev rest : List ℕ
+  rest = between begun.args.word.now c.in-From.root begun.args.at.end
+
+  own : {x : Rows} → (let a = begun.args in x ≡ plus_all a.word.now (kept_of a.out.now a.n) (root_found (reply a.sheet.now) a.surface a.at.chain a.word.now a.at.end c.in-From.root (prefixes_of (a.first ∷ []))))
+      → let a = begun.args in x ≡ plus_all a.word.now (kept_of a.out.now a.n) (root_walk (reply a.sheet.now) a.surface a.at.chain (take a.at.end a.word.now) (a.first ∷ []) rest)
+  own e =
+      let a = begun in
+      e ∙ ap (plus_all a.args.word.now (kept_of a.args.out.now a.args.n)) (root_at a.args.word.now c.in-From.root a.args.at.end (reply a.args.sheet.now) a.args.surface a.args.at.chain (a.args.first ∷ []) (inside (up-In-From _ _ _ c.before.before.before.before.before)) a.requires.1)
+
+  -- what is said of what the prefix leaves is said of the row
+  whole : {x : Rows} → (let a = begun.args in x ≡ plus_all a.word.now (kept_of a.out.now a.n) (second_walk (reply a.sheet.now) a.surface a.at.chain (take a.at.end a.word.now) a.first rest))
+      → let a = begun.args in x ≡ plus_all a.word.now (kept_of a.out.now a.n) (on_left (second_walk (reply a.sheet.now) a.surface a.at.chain (take a.at.end a.word.now) a.first) (prefix_remainder (take a.at.end a.word.now) (form_of a.first)))
+  whole e =
+      let a = begun.args in
+      e ∙ sym (ap (λ (l : List (List ℕ)). plus_all a.word.now (kept_of a.out.now a.n) (on_left (second_walk (reply a.sheet.now) a.surface a.at.chain (take a.at.end a.word.now) a.first) l))
+      (front-left a.word.now a.at.end (form_of a.first) c.in-From.root (sym c.in-From.is ∙ asked (up-After-prefix_rest-rest _ _ _ c.before.before.before.before.before.before.before.before))))
+
+  -- and so is what is counted there
+  counted : {v : ℕ} → v ≡ prefix_visits 1 (reply begun.args.sheet.now) rest
+      → let a = begun.args in v ≡ total (prefix_visits 1 (reply a.sheet.now)) (prefix_remainder (take a.at.end a.word.now) (form_of a.first))
+  counted {v} e =
+      let a = begun.args in
+      left_one (prefix_visits 1 (reply a.sheet.now)) (take a.at.end a.word.now) (form_of a.first) rest v
+      (front-left a.word.now a.at.end (form_of a.first) c.in-From.root (sym c.in-From.is ∙ asked (up-After-prefix_rest-rest _ _ _ c.before.before.before.before.before.before.before.before))) e
+
+pub returns-then-progressive : goal.returns-then-progressive
+returns-then-progressive c =
+    let w = c in
+    let a = (begun (goal.at.returns-then-progressive c).After-with_root-f).args in (
+      whole (goal.at.returns-then-progressive c).After-with_root-f (second_none (reply a.sheet.now) a.surface a.at.chain a.word.now (take a.at.end a.word.now) a.first (rest (goal.at.returns-then-progressive c).After-with_root-f) _ _ (own (goal.at.returns-then-progressive c).After-with_root-f w.with_root-f.ensures.0)
+          (sym w.has_supported_progressive_form-progressive.ensures ∙ c.if-progressive.true)),
+      w.with_root-f.ensures.1,
+      counted (goal.at.returns-then-progressive c).After-with_root-f (prefix_none 0 (reply a.sheet.now) (rest (goal.at.returns-then-progressive c).After-with_root-f) (sym w.has_supported_progressive_form-progressive.ensures ∙ c.if-progressive.true)),
+    )
+
+pub slice_bounds-may_begin-count : goal.slice_bounds-may_begin-count
+slice_bounds-may_begin-count c = inside (goal.at.slice_bounds-may_begin-count c).In-From
+
+pub slice_bounds-may_begin-start : goal.slice_bounds-may_begin-start
+slice_bounds-may_begin-start c = let w = c in omega (arith, inside (goal.at.slice_bounds-may_begin-start c).In-From, (begun (goal.at.slice_bounds-may_begin-start c).After-with_root-f).requires.1)
+
+pub returns-then-not-may_begin : goal.returns-then-not-may_begin
+returns-then-not-may_begin c =
+    let e = c in
+    let w = e in
+    let a = (begun (goal.at.returns-then-not-may_begin c).After-with_root-f).args in (
+      whole (goal.at.returns-then-not-may_begin c).After-with_root-f (second_bare (reply a.sheet.now) a.surface a.at.chain a.word.now (take a.at.end a.word.now) a.first (rest (goal.at.returns-then-not-may_begin c).After-with_root-f) _ _ (own (goal.at.returns-then-not-may_begin c).After-with_root-f w.with_root-f.ensures.0)
+          (sym w.has_supported_progressive_form-progressive.ensures ∙ e.if-progressive.false)
+          (λ f. no-forms f (rest (goal.at.returns-then-not-may_begin c).After-with_root-f) (sym c.may_begin.ensures ∙ c.if-not-may_begin.true) 0 all_forms (omega arith))),
+      w.with_root-f.ensures.1,
+      counted (goal.at.returns-then-not-may_begin c).After-with_root-f (prefix_bare 0 (reply a.sheet.now) (rest (goal.at.returns-then-not-may_begin c).After-with_root-f) (sym c.may_begin.ensures ∙ c.if-not-may_begin.true)),
+    )
+
+pub second_rows-more-requires : goal.second_rows-more-requires
+second_rows-more-requires c =
+    let w = c in
+    let a = (begun (goal.at.second_rows-more-requires c).After-with_root-f).requires in
+    (a.0, inside (goal.at.second_rows-more-requires c).In-From, a.1, a.3, a.4, (search rules, w.with_root-f.ensures.1))
+
+pub overflow_add-result : goal.overflow_add-result
+overflow_add-result c =
+    let r = c in
+    let w = r in
+    omega (arith, r.second_rows-more.ensures.2, second_few (reply (begun (goal.at.overflow_add-result c).After-with_root-f).args.sheet.now) (rest (goal.at.overflow_add-result c).After-with_root-f))
+
+pub returns-else-not-may_begin : goal.returns-else-not-may_begin
+returns-else-not-may_begin c =
+    let r = c in
+    let e = r in
+    let w = e in
+    let a = (begun (goal.at.returns-else-not-may_begin c).After-with_root-f).args in (
+      whole (goal.at.returns-else-not-may_begin c).After-with_root-f (second_some (reply a.sheet.now) a.surface a.at.chain a.word.now (take a.at.end a.word.now) a.first (rest (goal.at.returns-else-not-may_begin c).After-with_root-f) _ _ (own (goal.at.returns-else-not-may_begin c).After-with_root-f w.with_root-f.ensures.0) _
+          (sym w.has_supported_progressive_form-progressive.ensures ∙ e.if-progressive.false) r.second_rows-more.ensures.0),
+      r.second_rows-more.ensures.1,
+      counted (goal.at.returns-else-not-may_begin c).After-with_root-f (prefix_some 0 (reply a.sheet.now) (rest (goal.at.returns-else-not-may_begin c).After-with_root-f) _ (sym w.has_supported_progressive_form-progressive.ensures ∙ e.if-progressive.false) r.second_rows-more.ensures.2),
+    )

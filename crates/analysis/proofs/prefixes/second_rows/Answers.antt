@@ -1,0 +1,86 @@
+-- `analysis::prefixes::second_rows` meets its contract: what all rows add is what those to come add to what has been collected. Assumes nothing.
+use Prim.Native.Nat.{ℕ, ◌+◌, ◌-◌, ◌<◌, ◌≤◌}
+use native.Mathlib.Omega.{arith}
+use mathlib.Core.Path.{◌≡◌, refl, sym, ◌∙◌}
+use mathlib.Core.List.{List, [], ◌∷◌}
+use lib.ListN.{length, take}
+use borrow.Author.Rules.{rules}
+use Rattle.paths.specs.Visits.{prefix_visits}
+use Rattle.analysis.proofs.Visited.{Counted, visits_turn, visits_pass, visits_end, second_few}
+use Rattle.paths.specs.Chains.{all_forms}
+use Rattle.sheet.specs.Replies.{reply}
+use Rattle.ranking.specs.Lists.{list_limit, plus_all}
+use Rattle.ranking.specs.Kept.{kept_of}
+use Rattle.ranking.specs.declared.Reading.{Reading}
+use Rattle.paths.specs.declared.Chain.{Chain}
+use Rattle.paths.specs.Walk.{root_walk, over_forms}
+use Rattle.analysis.specs.Places.{between}
+use Rattle.analysis.proofs.Turns.{form_turn, form_pass, form-end}
+use Rattle.analysis.proofs.prefixes.second_rows.Invariants.{each}
+use Rattle.analysis.proofs.prefixes.second_rows.Goals as goal
+
+pub loop-k-init : goal.loop-k-init
+loop-k-init c = (omega arith, c.requires.5.1, refl, refl, omega arith)
+
+pub begins-requires : goal.begins-requires
+begins-requires c = let p = c.requires in (p.0.forms-laid, p.1, p.2, c.loop-k-test.true)
+
+pub second_row-r-requires : goal.second_row-r-requires
+second_row-r-requires c =
+    let i = c in
+    let k = i in
+    let p = k.requires in
+    (p.0, p.1, p.2, i.loop-k-test.true, p.3, p.4, (omega (arith, k.loop-k.invariant.2, p.5.0), k.loop-k.invariant.1))
+
+pub overflow_add-k : goal.overflow_add-k
+overflow_add-k c = omega arith
+
+-- the count stays small: it is at most that of all rows
+pub overflow_add-v : goal.overflow_add-v
+overflow_add-v c =
+    let r = c in
+    let i = r in
+    let k = i in
+    let a = k.args in
+    let e = visits_turn (prefix_visits 0 (reply a.sheet.now)) (between a.word.now a.«from» a.at.end) k.loop-k.k k.loop-k.v _ i.loop-k-test.true k.loop-k.invariant.4 r.second_row-r.ensures.2 in
+    omega (arith, e, second_few (reply a.sheet.now) (between a.word.now a.«from» a.at.end))
+
+pub loop-k-smaller-then-begins : goal.loop-k-smaller-then-begins
+loop-k-smaller-then-begins c = omega (arith, c.loop-k-test.true)
+
+pub loop-k-preserved-then-begins : goal.loop-k-preserved-then-begins
+loop-k-preserved-then-begins c =
+    let r = c in
+    let i = r in
+    let k = i in
+    let a = k.args in (
+      omega (arith, i.loop-k-test.true),
+      r.second_row-r.ensures.1,
+      search rules,
+      k.loop-k.invariant.3 ∙ form_turn a.word.now (each a.word.now a.sheet.now a.at.end a.first a.at.chain a.surface) (between a.word.now a.«from» a.at.end) k.loop-k.k all_forms (kept_of k.loop-k.out k.loop-k.f) _ i.loop-k-test.true r.second_row-r.ensures.0,
+      visits_turn (prefix_visits 0 (reply a.sheet.now)) (between a.word.now a.«from» a.at.end) k.loop-k.k k.loop-k.v _ i.loop-k-test.true k.loop-k.invariant.4 r.second_row-r.ensures.2,
+    )
+
+pub loop-k-smaller : goal.loop-k-smaller
+loop-k-smaller c = omega (arith, c.loop-k-test.true)
+
+pub loop-k-preserved : goal.loop-k-preserved
+loop-k-preserved c =
+    let i = c in
+    let k = i in
+    let a = k.args in (
+      omega (arith, i.loop-k-test.true),
+      k.loop-k.invariant.1,
+      k.loop-k.invariant.2,
+      k.loop-k.invariant.3 ∙ form_pass a.word.now (each a.word.now a.sheet.now a.at.end a.first a.at.chain a.surface) (between a.word.now a.«from» a.at.end) k.loop-k.k all_forms (kept_of k.loop-k.out k.loop-k.f) i.loop-k-test.true (sym c.begins.ensures ∙ c.if-begins.false),
+      visits_pass (prefix_visits 0 (reply a.sheet.now)) (between a.word.now a.«from» a.at.end) k.loop-k.k k.loop-k.v i.loop-k-test.true k.loop-k.invariant.4 (sym c.begins.ensures ∙ c.if-begins.false),
+    )
+
+pub shape_of-out : goal.shape_of-out
+shape_of-out c = c.loop-k.invariant.2
+
+pub returns : goal.returns
+returns c =
+    let k = c in
+    let a = k.args in
+    (sym (k.loop-k.invariant.3 ∙ form-end a.word.now (each a.word.now a.sheet.now a.at.end a.first a.at.chain a.surface) (between a.word.now a.«from» a.at.end) k.loop-k.k all_forms (kept_of k.loop-k.out k.loop-k.f) c.loop-k-test.false), k.loop-k.invariant.1, visits_end (prefix_visits 0 (reply a.sheet.now)) (between a.word.now a.«from» a.at.end) k.loop-k.k k.loop-k.v c.loop-k-test.false k.loop-k.invariant.4)

@@ -1,0 +1,45 @@
+-- `analysis::roots::with_root` meets its contract: the root's support decides, and its reading is kept. Assumes nothing.
+use Prim.Native.Nat.{ℕ, ◌-◌}
+use native.Mathlib.Omega.{arith}
+use borrow.Author.Rules.{rules}
+use borrow.Author.Tests.{not-true, not-false}
+use mathlib.Core.Path.{◌≡◌, sym, ap, ◌∙◌}
+use lib.ListN.{length, take, drop}
+use Rattle.sheet.specs.Replies.{reply}
+use Rattle.paths.specs.Support.{is_supported, score_of}
+use Rattle.analysis.specs.Places.{between}
+use Rattle.analysis.specs.Supports.{supports, support_of, score_from}
+use Rattle.analysis.specs.declared.support.Support.{Support}
+use Rattle.analysis.proofs.Supported.{supports_is, score_is}
+use Rattle.analysis.proofs.Added.{no-root, one-root}
+use Rattle.analysis.proofs.roots.with_root.Goals as goal
+use Rattle.analysis.proofs.roots.with_root.Goals.{After-is_supported}
+
+-- whether the root is supported
+tested : (c : After-is_supported) → let a = c.args in
+    c.is_supported.result ≡ is_supported (reply a.sheet.now) (between a.word.now a.root a.at.end)
+tested c =
+    let a = c.args in
+    c.is_supported.ensures
+    ∙ ap (λ (x : Support). supports x (length (between a.word.now a.root a.at.end))) c.support_of-s.ensures
+    ∙ supports_is (reply a.sheet.now) (between a.word.now a.root a.at.end)
+
+pub returns-then-not-is_supported : goal.returns-then-not-is_supported
+returns-then-not-is_supported c =
+    let s = c in
+    let a = s.args in
+    (no-root (reply a.sheet.now) a.surface a.at.chain a.word.now a.at.end a.root a.prefixes _ (sym (tested (goal.at.returns-then-not-is_supported c).After-is_supported) ∙ c.if-not-is_supported.true), s.requires.9.1)
+
+pub returns : goal.returns
+returns c =
+    let k = c in
+    let d = k in
+    let e = d in
+    let t = e in
+    let a = t.args in
+    let q = d.score.ensures ∙ ap (λ (x : Support). score_from a.surface x a.prefixes.count a.at.chain.count) t.support_of-s.ensures
+    ∙ score_is (reply a.sheet.now) (between a.word.now a.root a.at.end) a.surface a.prefixes.count a.at.chain.count in (
+      k.store.ensures.0
+          ∙ one-root (reply a.sheet.now) a.surface a.at.chain a.word.now a.at.end a.root a.prefixes _ d.score.result (sym (tested (goal.at.returns c).After-is_supported) ∙ e.if-not-is_supported.false) q,
+      k.store.ensures.1,
+    )

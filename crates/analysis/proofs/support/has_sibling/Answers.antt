@@ -1,0 +1,64 @@
+-- `analysis::support::has_sibling` meets its contract: some text gives a known name where one of those to come does. Assumes nothing.
+use Prim.Native.Nat.{ℕ, ◌-◌, ◌<◌, ◌≤◌}
+use native.Mathlib.Omega.{arith}
+use mathlib.Core.Path.{◌≡◌, refl, sym, ap, ◌∙◌}
+use mathlib.Core.List.{List, [], ◌++◌}
+use lib.ListN.{length, drop, get_or}
+use Rattle.paths.specs.Chains.{all_rows}
+use Rattle.tables.specs.Tables.{affixes}
+use Rattle.tables.proofs.Facts.{affix_count}
+use Rattle.tables.proofs.Laid.{laid-asks, laid-row}
+use Rattle.sheet.specs.Replies.{reply}
+use Rattle.paths.specs.Support.{is_known, known_with}
+use Rattle.analysis.proofs.Siblings.{known_here, known_next, known_end}
+use Rattle.analysis.proofs.support.has_sibling.Goals as goal
+use Rattle.analysis.proofs.support.has_sibling.Lts.View.{up-In-loop-k}
+use Rattle.analysis.proofs.support.has_sibling.Goals.{After-is_known, In-loop-k}
+
+pub loop-k-init : goal.loop-k-init
+loop-k-init c = (omega arith, refl)
+
+-- the row is one of the 25
+inside : (c : In-loop-k) → c.loop-k.k < length affixes
+inside c = omega (arith, affix_count, c.loop-k-test.true)
+
+pub row-text-requires : goal.row-text-requires
+row-text-requires c = laid-asks c.requires.2 _ (inside (goal.at.row-text-requires c).In-loop-k)
+
+pub is_known-requires : goal.is_known-requires
+is_known-requires c = let a = c in (a.requires.0, a.requires.1)
+
+-- what is asked of the row
+asked : (c : After-is_known) → let k = c in let a = k.args in
+    c.is_known.result ≡ is_known (reply a.sheet.now) (a.piece.now ++ get_or affixes k.loop-k.k [])
+asked c =
+    let i = c in
+    let s = i in
+    c.is_known.ensures
+    ∙ ap (λ (t : List ℕ). is_known (reply s.args.sheet.now) (s.args.piece.now ++ t)) (c.row-text.ensures ∙ laid-row s.requires.2 i.loop-k.k (inside (up-In-loop-k _ _ _ _ _ c.before.before.before)))
+
+pub returns-then-is_known : goal.returns-then-is_known
+returns-then-is_known c =
+    let i = c in
+    let k = i in
+    let a = k.args in
+    sym (k.loop-k.invariant.1 ∙ known_here (reply a.sheet.now) a.piece.now affixes k.loop-k.k (inside (goal.at.returns-then-is_known c).In-loop-k) (sym (asked (goal.at.returns-then-is_known c).After-is_known) ∙ c.if-is_known.true))
+
+pub overflow_add-k : goal.overflow_add-k
+overflow_add-k c = omega arith
+
+pub loop-k-smaller : goal.loop-k-smaller
+loop-k-smaller c = omega arith
+
+pub loop-k-preserved : goal.loop-k-preserved
+loop-k-preserved c =
+    let i = c in
+    let k = i in
+    let a = k.args in
+    (omega arith, k.loop-k.invariant.1 ∙ known_next (reply a.sheet.now) a.piece.now affixes k.loop-k.k (inside (goal.at.loop-k-preserved c).In-loop-k) (sym (asked (goal.at.loop-k-preserved c).After-is_known) ∙ c.if-is_known.false))
+
+pub returns : goal.returns
+returns c =
+    let k = c in
+    let a = k.args in
+    sym (k.loop-k.invariant.1 ∙ known_end (reply a.sheet.now) a.piece.now affixes k.loop-k.k (omega (arith, affix_count, c.loop-k-test.false)))
