@@ -55,7 +55,7 @@ fn put_parts(p: Parts, a: u8, b: u8, c: u8, d: u8, out: &mut [u8])
         s[22],
         s[23],
     ];
-    out.copy_from_slice(&all);
+    out[..33].copy_from_slice(&all);
 }
 
 fn bit_of(b: bool) -> u8

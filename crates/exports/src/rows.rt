@@ -64,7 +64,7 @@ fn put_row(row: Classified, out: &mut [u8])
         (bits / 16777216) as u8,
     ];
     put_reading(reading, out);
-    out[WIDTH..].copy_from_slice(&rest);
+    out[WIDTH..ROW].copy_from_slice(&rest);
 }
 
 // The first n rows that the walk has kept, each with its root's origin, one after the other at the front of the buffer, and their number; 8

@@ -9,6 +9,6 @@ use Rattle.analysis.proofs.entry.first_of.Goals as goal
 
 pub returns : goal.returns
 returns c =
-    let l = c.args.t1 in
-    let n : length l.rows ≡ 64 = simp length-map at c.well_formed.0.1.1.0.1.0.1 in
+    let l = c.args.list in
+    let n : length l.rows ≡ 64 = c.well_formed.0.1.1.0.1.0.1 in
     first-row l.rows l.count _ (omega arith)

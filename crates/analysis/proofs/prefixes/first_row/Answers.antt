@@ -28,7 +28,7 @@ use Rattle.analysis.proofs.Visited.{left-none, left_one, prefix_none, prefix_bar
 use borrow.Author.Rules.{rules}
 use borrow.Author.Tests.{not-true}
 use Rattle.analysis.proofs.prefixes.first_row.Goals as goal
-use Rattle.analysis.proofs.prefixes.first_row.Lts.View.{up-After-prefix_rest-rest, up-In-From}
+use Rattle.analysis.proofs.prefixes.first_row.Lts.View.{up-In-From}
 use Rattle.analysis.proofs.prefixes.first_row.Goals.{After-prefix_rest-rest, After-with_root-f, In-From}
 
 pub row-form-requires : goal.row-form-requires
@@ -45,13 +45,20 @@ asked c =
 pub slice_bounds-prefix_rest-end : goal.slice_bounds-prefix_rest-end
 slice_bounds-prefix_rest-end c = let a = c in sym (length-take-le a.args.at.end a.args.word.now a.requires.1)
 
+-- the same, where a remainder is left
+asked_from : (c : In-From) → c.prefix_rest-rest.result ≡ rest_of (take c.args.at.end c.args.word.now) (form_of c.args.first)
+asked_from c = c.prefix_rest-rest.ensures ∙ ap (rest_of (take c.args.at.end c.args.word.now)) (c.row-form.ensures ∙ laid-row c.requires.0.forms-laid c.args.first (omega (arith, prefix_form_count, c.requires.2)))
+
+asked_then : (c : After-with_root-f) → c.prefix_rest-rest.result ≡ rest_of (take c.args.at.end c.args.word.now) (form_of c.args.first)
+asked_then c = c.prefix_rest-rest.ensures ∙ ap (rest_of (take c.args.at.end c.args.word.now)) (c.row-form.ensures ∙ laid-row c.requires.0.forms-laid c.args.first (omega (arith, prefix_form_count, c.requires.2)))
+
 -- the root begins inside the stem
 inside : (c : In-From) → c.in-From.root ≤ c.args.at.end
 inside c =
     let p = c in
     let a = p in
-    let n = rest-inside (piece (up-After-prefix_rest-rest _ _ _ c.before.before.before.before)) (form_of a.args.first) c.in-From.root (sym (asked (up-After-prefix_rest-rest _ _ _ c.before.before.before.before)) ∙ c.in-From.is) in
-    let l : length (piece (up-After-prefix_rest-rest _ _ _ c.before.before.before.before)) ≡ a.args.at.end = length-take-le a.args.at.end a.args.word.now a.requires.1 in
+    let n = rest-inside (take c.args.at.end c.args.word.now) (form_of a.args.first) c.in-From.root (sym (asked_from c) ∙ c.in-From.is) in
+    let l : length (take c.args.at.end c.args.word.now) ≡ a.args.at.end = length-take-le a.args.at.end a.args.word.now a.requires.1 in
     omega (arith, n)
 
 pub slice_bounds-has_supported_progressive_form-count : goal.slice_bounds-has_supported_progressive_form-count
@@ -82,38 +89,35 @@ returns-in-Nothing c =
 
 -- the prefix's own reading is kept, and the rest of the walk begins at what it leaves
 module _ (c : After-with_root-f) where
-  abbrev begun : tie.Start
-  begun = c
-
   abbrev rest : List ℕ
-  rest = between begun.args.word.now c.in-From.root begun.args.at.end
+  rest = between c.args.word.now c.in-From.root c.args.at.end
 
-  own : {x : Rows} → (let a = begun.args in x ≡ plus_all a.word.now (kept_of a.out.now a.n) (root_found (reply a.sheet.now) a.surface a.at.chain a.word.now a.at.end c.in-From.root (prefixes_of (a.first ∷ []))))
-      → let a = begun.args in x ≡ plus_all a.word.now (kept_of a.out.now a.n) (root_walk (reply a.sheet.now) a.surface a.at.chain (take a.at.end a.word.now) (a.first ∷ []) rest)
+  own : {x : Rows} → (let a = c.args in x ≡ plus_all a.word.now (kept_of a.out.now a.n) (root_found (reply a.sheet.now) a.surface a.at.chain a.word.now a.at.end c.in-From.root (prefixes_of (a.first ∷ []))))
+      → let a = c.args in x ≡ plus_all a.word.now (kept_of a.out.now a.n) (root_walk (reply a.sheet.now) a.surface a.at.chain (take a.at.end a.word.now) (a.first ∷ []) rest)
   own e =
-      let a = begun in
+      let a = c in
       e ∙ ap (plus_all a.args.word.now (kept_of a.args.out.now a.args.n)) (root_at a.args.word.now c.in-From.root a.args.at.end (reply a.args.sheet.now) a.args.surface a.args.at.chain (a.args.first ∷ []) (inside (up-In-From _ _ _ c.before.before.before.before.before)) a.requires.1)
 
   -- what is said of what the prefix leaves is said of the row
-  whole : {x : Rows} → (let a = begun.args in x ≡ plus_all a.word.now (kept_of a.out.now a.n) (second_walk (reply a.sheet.now) a.surface a.at.chain (take a.at.end a.word.now) a.first rest))
-      → let a = begun.args in x ≡ plus_all a.word.now (kept_of a.out.now a.n) (on_left (second_walk (reply a.sheet.now) a.surface a.at.chain (take a.at.end a.word.now) a.first) (prefix_remainder (take a.at.end a.word.now) (form_of a.first)))
+  whole : {x : Rows} → (let a = c.args in x ≡ plus_all a.word.now (kept_of a.out.now a.n) (second_walk (reply a.sheet.now) a.surface a.at.chain (take a.at.end a.word.now) a.first rest))
+      → let a = c.args in x ≡ plus_all a.word.now (kept_of a.out.now a.n) (on_left (second_walk (reply a.sheet.now) a.surface a.at.chain (take a.at.end a.word.now) a.first) (prefix_remainder (take a.at.end a.word.now) (form_of a.first)))
   whole e =
-      let a = begun.args in
+      let a = c.args in
       e ∙ sym (ap (λ (l : List (List ℕ)). plus_all a.word.now (kept_of a.out.now a.n) (on_left (second_walk (reply a.sheet.now) a.surface a.at.chain (take a.at.end a.word.now) a.first) l))
-      (front-left a.word.now a.at.end (form_of a.first) c.in-From.root (sym c.in-From.is ∙ asked (up-After-prefix_rest-rest _ _ _ c.before.before.before.before.before.before.before.before))))
+      (front-left a.word.now a.at.end (form_of a.first) c.in-From.root (sym c.in-From.is ∙ asked_then c)))
 
   -- and so is what is counted there
-  counted : {v : ℕ} → v ≡ prefix_visits 1 (reply begun.args.sheet.now) rest
-      → let a = begun.args in v ≡ total (prefix_visits 1 (reply a.sheet.now)) (prefix_remainder (take a.at.end a.word.now) (form_of a.first))
+  counted : {v : ℕ} → v ≡ prefix_visits 1 (reply c.args.sheet.now) rest
+      → let a = c.args in v ≡ total (prefix_visits 1 (reply a.sheet.now)) (prefix_remainder (take a.at.end a.word.now) (form_of a.first))
   counted {v} e =
-      let a = begun.args in
+      let a = c.args in
       left_one (prefix_visits 1 (reply a.sheet.now)) (take a.at.end a.word.now) (form_of a.first) rest v
-      (front-left a.word.now a.at.end (form_of a.first) c.in-From.root (sym c.in-From.is ∙ asked (up-After-prefix_rest-rest _ _ _ c.before.before.before.before.before.before.before.before))) e
+      (front-left a.word.now a.at.end (form_of a.first) c.in-From.root (sym c.in-From.is ∙ asked_then c)) e
 
 pub returns-then-progressive : goal.returns-then-progressive
 returns-then-progressive c =
     let w = c in
-    let a = (begun (goal.at.returns-then-progressive c).After-with_root-f).args in (
+    let a = c.args in (
       whole (goal.at.returns-then-progressive c).After-with_root-f (second_none (reply a.sheet.now) a.surface a.at.chain a.word.now (take a.at.end a.word.now) a.first (rest (goal.at.returns-then-progressive c).After-with_root-f) _ _ (own (goal.at.returns-then-progressive c).After-with_root-f w.with_root-f.ensures.0)
           (sym w.has_supported_progressive_form-progressive.ensures ∙ c.if-progressive.true)),
       w.with_root-f.ensures.1,
@@ -124,13 +128,13 @@ pub slice_bounds-may_begin-count : goal.slice_bounds-may_begin-count
 slice_bounds-may_begin-count c = inside (goal.at.slice_bounds-may_begin-count c).In-From
 
 pub slice_bounds-may_begin-start : goal.slice_bounds-may_begin-start
-slice_bounds-may_begin-start c = let w = c in omega (arith, inside (goal.at.slice_bounds-may_begin-start c).In-From, (begun (goal.at.slice_bounds-may_begin-start c).After-with_root-f).requires.1)
+slice_bounds-may_begin-start c = let w = c in omega (arith, inside (goal.at.slice_bounds-may_begin-start c).In-From, c.requires.1)
 
 pub returns-then-not-may_begin : goal.returns-then-not-may_begin
 returns-then-not-may_begin c =
     let e = c in
     let w = e in
-    let a = (begun (goal.at.returns-then-not-may_begin c).After-with_root-f).args in (
+    let a = c.args in (
       whole (goal.at.returns-then-not-may_begin c).After-with_root-f (second_bare (reply a.sheet.now) a.surface a.at.chain a.word.now (take a.at.end a.word.now) a.first (rest (goal.at.returns-then-not-may_begin c).After-with_root-f) _ _ (own (goal.at.returns-then-not-may_begin c).After-with_root-f w.with_root-f.ensures.0)
           (sym w.has_supported_progressive_form-progressive.ensures ∙ e.if-progressive.false)
           (λ f. no-forms f (rest (goal.at.returns-then-not-may_begin c).After-with_root-f) (sym c.may_begin.ensures ∙ c.if-not-may_begin.true) 0 all_forms (omega arith))),
@@ -141,21 +145,21 @@ returns-then-not-may_begin c =
 pub second_rows-more-requires : goal.second_rows-more-requires
 second_rows-more-requires c =
     let w = c in
-    let a = (begun (goal.at.second_rows-more-requires c).After-with_root-f).requires in
+    let a = c.requires in
     (a.0, inside (goal.at.second_rows-more-requires c).In-From, a.1, a.3, a.4, (search rules, w.with_root-f.ensures.1))
 
 pub overflow_add-result : goal.overflow_add-result
 overflow_add-result c =
     let r = c in
     let w = r in
-    omega (arith, r.second_rows-more.ensures.2, second_few (reply (begun (goal.at.overflow_add-result c).After-with_root-f).args.sheet.now) (rest (goal.at.overflow_add-result c).After-with_root-f))
+    omega (arith, r.second_rows-more.ensures.2, second_few (reply c.args.sheet.now) (rest (goal.at.overflow_add-result c).After-with_root-f))
 
 pub returns-else-not-may_begin : goal.returns-else-not-may_begin
 returns-else-not-may_begin c =
     let r = c in
     let e = r in
     let w = e in
-    let a = (begun (goal.at.returns-else-not-may_begin c).After-with_root-f).args in (
+    let a = c.args in (
       whole (goal.at.returns-else-not-may_begin c).After-with_root-f (second_some (reply a.sheet.now) a.surface a.at.chain a.word.now (take a.at.end a.word.now) a.first (rest (goal.at.returns-else-not-may_begin c).After-with_root-f) _ _ (own (goal.at.returns-else-not-may_begin c).After-with_root-f w.with_root-f.ensures.0) _
           (sym w.has_supported_progressive_form-progressive.ensures ∙ e.if-progressive.false) r.second_rows-more.ensures.0),
       r.second_rows-more.ensures.1,

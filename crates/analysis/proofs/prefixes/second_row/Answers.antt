@@ -23,7 +23,6 @@ use Rattle.paths.specs.Visits.{prefix_visits}
 use Rattle.analysis.proofs.Visited.{left-none, left_one, prefix_last}
 use borrow.Author.Rules.{rules}
 use Rattle.analysis.proofs.prefixes.second_row.Goals as goal
-use Rattle.analysis.proofs.prefixes.second_row.Lts.View.{up-After-prefix_rest-rest}
 use Rattle.analysis.proofs.prefixes.second_row.Goals.{After-prefix_rest-rest, In-From}
 
 pub row-form-requires : goal.row-form-requires
@@ -37,13 +36,17 @@ asked c =
     let a = c in
     c.prefix_rest-rest.ensures ∙ ap (rest_of (piece c)) (c.row-form.ensures ∙ laid-row a.requires.0.forms-laid a.args.second (omega (arith, prefix_form_count, a.requires.3)))
 
+-- the same, where a remainder is left
+asked_from : (c : In-From) → c.prefix_rest-rest.result ≡ rest_of (between c.args.word.now c.args.«from» c.args.at.end) (form_of c.args.second)
+asked_from c = c.prefix_rest-rest.ensures ∙ ap (rest_of (between c.args.word.now c.args.«from» c.args.at.end)) (c.row-form.ensures ∙ laid-row c.requires.0.forms-laid c.args.second (omega (arith, prefix_form_count, c.requires.3)))
+
 -- the root begins inside the stem
 inside : (c : In-From) → let a = c in a.args.«from» + c.in-From.cut ≤ a.args.at.end
 inside c =
     let p = c in
     let a = p in
-    let n = rest-inside (piece (up-After-prefix_rest-rest _ _ _ c.before.before.before.before)) (form_of a.args.second) c.in-From.cut (sym (asked (up-After-prefix_rest-rest _ _ _ c.before.before.before.before)) ∙ c.in-From.is) in
-    let l : length (piece (up-After-prefix_rest-rest _ _ _ c.before.before.before.before)) ≡ a.args.at.end - a.args.«from» = between-length a.args.word.now a.args.«from» a.args.at.end a.requires.1 a.requires.2 in
+    let n = rest-inside (between c.args.word.now c.args.«from» c.args.at.end) (form_of a.args.second) c.in-From.cut (sym (asked_from c) ∙ c.in-From.is) in
+    let l : length (between c.args.word.now c.args.«from» c.args.at.end) ≡ a.args.at.end - a.args.«from» = between-length a.args.word.now a.args.«from» a.args.at.end a.requires.1 a.requires.2 in
     omega (arith, n, a.requires.1)
 
 pub overflow_add-root : goal.overflow_add-root

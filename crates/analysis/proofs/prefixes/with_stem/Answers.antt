@@ -39,8 +39,8 @@ with_root-f-requires c =
 
 -- the stem's own reading is kept
 own : (c : After-with_root-f) {x : Rows}
-    → (let a = c.args in x ≡ plus_all a.word.now (kept_of a.out-1.now a.n) (root_found (reply a.sheet.now) a.surface a.at.chain a.word.now a.at.end 0 (prefixes_of [])))
-    → let a = c.args in x ≡ plus_all a.word.now (kept_of a.out-1.now a.n) (root_walk (reply a.sheet.now) a.surface a.at.chain (take a.at.end a.word.now) [] (take a.at.end a.word.now))
+    → (let a = c.args in x ≡ plus_all a.word.now (kept_of a.out.now a.n) (root_found (reply a.sheet.now) a.surface a.at.chain a.word.now a.at.end 0 (prefixes_of [])))
+    → let a = c.args in x ≡ plus_all a.word.now (kept_of a.out.now a.n) (root_walk (reply a.sheet.now) a.surface a.at.chain (take a.at.end a.word.now) [] (take a.at.end a.word.now))
 own c e =
     let a = c in
     e

@@ -1,0 +1,31 @@
+-- `offers::with_word` meets its contract. Assumes nothing.
+use mathlib.Core.Path.{◌≡◌, ap, ◌∙◌}
+use mathlib.Core.List.{List, ◌∷◌}
+use native.Mathlib.Omega.{arith}
+use Rattle.sheet.specs.Replies.{reply}
+use Rattle.decomposition.specs.Strips.{no_front}
+use Rattle.roots.specs.Lists.{rows_of}
+use Rattle.roots.specs.Candidates.{bare, one_suffix}
+use Rattle.roots.specs.Room.{held_of, held_all}
+use Rattle.roots.specs.declared.RootCandidate.{RootCandidate}
+use Rattle.roots.proofs.Offered.{bare_is, held_first}
+use borrow.Author.Rules.{rules}
+use Rattle.roots.proofs.offers.with_word.Goals as goal
+
+pub returns : goal.returns
+returns c =
+    let s = c in
+    let a = s.args in
+    let ask = reply a.sheet.now in
+    let xs = rows_of a.list in
+    let one = one_suffix ask a.word.now no_front in
+    let o : rows_of c.offer-first.result ≡ held_of 16 ask a.word.now xs (bare a.word.now no_front) =
+    c.offer-first.ensures.0 ∙ ap (held_of 16 ask a.word.now xs) (bare_is a.word.now no_front (omega arith)) in
+    let p : rows_of c.offer-second.result ≡ held_of 16 ask a.word.now (held_of 16 ask a.word.now xs (bare a.word.now no_front)) a.p =
+    c.offer-second.ensures.0 ∙ ap (λ (l : List RootCandidate). held_of 16 ask a.word.now l a.p) o in (
+      c.with_suffix.ensures.0
+          ∙ ap (λ (l : List RootCandidate). held_all 16 ask a.word.now l one) p
+          ∙ held_first 16 ask a.word.now (held_of 16 ask a.word.now xs (bare a.word.now no_front)) a.p one
+          ∙ held_first 16 ask a.word.now xs (bare a.word.now no_front) (a.p ∷ one),
+      c.with_suffix.ensures.1,
+    )
