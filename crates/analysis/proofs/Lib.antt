@@ -8,3 +8,4 @@ pub mod Strips
 pub mod Visited
 pub mod Accepted
 pub mod Promises
+pub mod Below

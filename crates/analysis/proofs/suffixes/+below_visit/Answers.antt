@@ -1,0 +1,236 @@
+-- `suffixes::visit` and `below`, which call each other, meet their contracts: a piece's readings are those of its stem and of its rows, a
+-- row's those of what it leaves. The strips left fall with each call. Assumes nothing.
+use Rattle.std.proofs.Common.{◌≡◌, ℕ, suc, ◌+◌, ◌-◌, ◌*◌, ◌<◌, ◌≤◌, Bool, true, false, List, [], length, take, get_or, refl, sym, ap, ◌∙◌, rules, arith}
+use native.Mathlib.Nat.{sub-zero}
+use Rattle.tables.specs.Tables.{affixes}
+use Rattle.tables.proofs.Facts.{affix_count}
+use Rattle.tables.proofs.Laid.{laid-asks, laid-row}
+use Rattle.strips.specs.Suffix.{rests_of}
+use Rattle.sheet.specs.Replies.{reply}
+use Rattle.ranking.specs.Lists.{Rows, plus_all}
+use Rattle.ranking.specs.Kept.{kept_of}
+use Rattle.paths.specs.Walk.{piece_walk}
+use Rattle.paths.specs.Weighed.{row_weighed, weighed, total_rows}
+use Rattle.paths.proofs.Few.{prefix_two}
+use Rattle.paths.proofs.Totals.{rows_next, rows_end}
+use Rattle.paths.proofs.Weighed.{weighed-fits}
+use Rattle.analysis.proofs.Visited.{row_zero, row_one, row_two, row_zero_ends, piece_stopped, piece_deepest, piece_begun}
+use Rattle.analysis.proofs.Strips.{shorter, row-none, row_plain, row-both, row_turn, row_pass, row-end, piece-progressive, piece-last, piece-rows}
+use Rattle.analysis.proofs.Below.{left_are, plain_in, shared_in, pushed_is, pushed_count, visited, visited_count}
+use Rattle.analysis.proofs.suffixes.+below_visit.Goals as goal
+use Rattle.analysis.proofs.suffixes.+below_visit.Goals.{below-After-suffix_rests-rests, visit-After-with_stem-stem}
+
+pub below-row-requires : goal.below-row-requires
+below-row-requires t c = laid-asks c.requires.0.texts_laid c.args.k (omega (arith, affix_count, c.requires.4))
+
+-- what the strip leaves
+rests_are : (t : ℕ) (c : below-After-suffix_rests-rests t) → c.suffix_rests-rests.result ≡ rests_of (take c.args.at.end c.args.word.now) (get_or affixes c.args.k [])
+rests_are t c =
+    c.suffix_rests-rests.ensures
+    ∙ ap (rests_of (take c.args.at.end c.args.word.now)) (c.row.ensures ∙ laid-row c.requires.0.texts_laid c.args.k (omega (arith, affix_count, c.requires.4)))
+
+pub below-returns-then-rests-eq0 : goal.below-returns-then-rests-eq0
+below-returns-then-rests-eq0 t c =
+    let a = c.args in
+    let e = rests_are t (goal.at.below-returns-then-rests-eq0 t c).After-suffix_rests-rests in
+    let l = (left_are a.word.now a.at.end a.k c.requires.1 _ e).0 c.if-rests-eq0.true in
+    let p = take a.at.end a.word.now in
+    (row-none a.word.now p (piece_walk (3 - a.at.chain.count) (reply a.sheet.now) a.surface) (reply a.sheet.now) a.at.chain a.k (kept_of a.out.now a.n) l.0 l.1, c.requires.5.1, row_zero (weighed (3 - a.at.chain.count) (reply a.sheet.now)) a.at.times p a.k l.0 l.1)
+
+pub below-visit-f-requires : goal.below-visit-f-requires
+below-visit-f-requires t c =
+    let a = c.args in
+    let e = rests_are t (goal.at.below-visit-f-requires t c).After-suffix_rests-rests in
+    let i = plain_in a.word.now a.at.end a.k c.requires.1 _ e in
+    let n = pushed_count (reply a.sheet.now) a.at.chain a.k _ c.kind_at-kind.ensures false _ c.pushed-next.ensures in
+    (omega (arith, c.decreases, n, c.requires.3), (c.requires.0, omega (arith, i, c.requires.1), c.requires.2, omega (arith, n, c.requires.3), omega (arith, c.rows_after-rows.ensures.1), c.requires.5, c.times_after-times.ensures.1))
+
+pub below-returns-then-rests-eq1 : goal.below-returns-then-rests-eq1
+below-returns-then-rests-eq1 t c =
+    let a = c.args in
+    let r = c.suffix_rests-rests.result in
+    let e = rests_are t (goal.at.below-returns-then-rests-eq1 t c).After-suffix_rests-rests in
+    let l = (left_are a.word.now a.at.end a.k c.requires.1 r e).1 c.if-rests-eq1.true in
+    let i = shorter a.word.now r.plain a.at.end (plain_in a.word.now a.at.end a.k c.requires.1 r e) in
+    let p = take a.at.end a.word.now in
+    let ask = reply a.sheet.now in
+    let k = c.kind_at-kind in
+    let q = c.pushed-next in
+    let rows = c.rows_after-rows in
+    let times = c.times_after-times in (
+      row_plain a.word.now p (piece_walk (3 - a.at.chain.count) ask a.surface) ask a.at.chain a.k (kept_of a.out.now a.n) q.result rows.result
+          (pushed_is ask a.at.chain a.k _ k.ensures false _ q.ensures) rows.ensures.0 _ _ (l.0 ∙ i)
+          (visited ask a.at.chain a.k _ k.ensures false _ q.ensures a.word.now _ a.surface rows.result _ c.visit-f.ensures.0) l.1,
+      c.visit-f.ensures.1,
+      row_one (weighed (3 - a.at.chain.count) ask) a.at.times p a.k rows.result times.result rows.ensures.0 times.ensures.0 _ _ (l.0 ∙ i)
+          (visited_count ask a.at.chain a.k _ k.ensures false _ q.ensures rows.result times.result _ c.visit-f.ensures.2) l.1,
+    )
+
+pub below-visit-g-requires : goal.below-visit-g-requires
+below-visit-g-requires t c =
+    let a = c.args in
+    let e = rests_are t (goal.at.below-visit-g-requires t c).After-suffix_rests-rests in
+    let i = shared_in a.word.now a.at.end a.k c.requires.1 _ e in
+    let n = pushed_count (reply a.sheet.now) a.at.chain a.k _ c.kind_at-kind.ensures true _ c.pushed-other.ensures in
+    (omega (arith, c.decreases, n, c.requires.3), (c.requires.0, omega (arith, i, c.requires.1), c.requires.2, omega (arith, n, c.requires.3), omega (arith, c.rows_after-rows.ensures.1), (omega (arith, c.requires.5.0, c.visit-f.auto.out), c.visit-f.ensures.1), c.times_after-times.ensures.1))
+
+pub below-overflow_add-result : goal.below-overflow_add-result
+below-overflow_add-result t c =
+    let a = c.args in
+    let few : (d rows times : ℕ) (left : List ℕ) → d ≤ 4 → rows ≤ 18 → times ≤ 2 → weighed d (reply a.sheet.now) rows times left ≤ 200000000 =
+      λ d rows times left h e q. weighed-fits (reply a.sheet.now) d rows times left h (omega (arith, e)) q in
+    omega (
+      arith,
+      c.visit-f.ensures.2,
+      c.visit-g.ensures.2,
+      few (4 - c.pushed-next.result.count) c.rows_after-rows.result c.times_after-times.result (take c.suffix_rests-rests.result.plain a.word.now) (omega arith) c.rows_after-rows.ensures.1 c.times_after-times.ensures.1,
+      few (4 - c.pushed-other.result.count) c.rows_after-rows.result c.times_after-times.result (take c.suffix_rests-rests.result.shared a.word.now) (omega arith) c.rows_after-rows.ensures.1 c.times_after-times.ensures.1,
+    )
+
+pub below-returns : goal.below-returns
+below-returns t c =
+    let a = c.args in
+    let r = c.suffix_rests-rests.result in
+    let e = rests_are t (goal.at.below-returns t c).After-suffix_rests-rests in
+    let l = (left_are a.word.now a.at.end a.k c.requires.1 r e).2 c.if-rests-eq0.false c.if-rests-eq1.false in
+    let i = shorter a.word.now r.plain a.at.end (plain_in a.word.now a.at.end a.k c.requires.1 r e) in
+    let j = shorter a.word.now r.shared a.at.end (shared_in a.word.now a.at.end a.k c.requires.1 r e) in
+    let p = take a.at.end a.word.now in
+    let ask = reply a.sheet.now in
+    let k = c.kind_at-kind in
+    let q = c.pushed-next in
+    let m = c.pushed-other in
+    let rows = c.rows_after-rows in
+    let times = c.times_after-times in (
+      row-both a.word.now p (piece_walk (3 - a.at.chain.count) ask a.surface) ask a.at.chain a.k (kept_of a.out.now a.n) q.result rows.result
+          (pushed_is ask a.at.chain a.k _ k.ensures false _ q.ensures) rows.ensures.0 _ _ (l.0 ∙ i)
+          (visited ask a.at.chain a.k _ k.ensures false _ q.ensures a.word.now _ a.surface rows.result _ c.visit-f.ensures.0)
+          m.result (pushed_is ask a.at.chain a.k _ k.ensures true _ m.ensures) _ _ (l.1 ∙ j)
+          (visited ask a.at.chain a.k _ k.ensures true _ m.ensures a.word.now _ a.surface rows.result _ c.visit-g.ensures.0),
+      c.visit-g.ensures.1,
+      row_two (weighed (3 - a.at.chain.count) ask) a.at.times p a.k rows.result times.result rows.ensures.0 times.ensures.0 _ _ (l.0 ∙ i)
+          (visited_count ask a.at.chain a.k _ k.ensures false _ q.ensures rows.result times.result _ c.visit-f.ensures.2) _ _ (l.1 ∙ j)
+          (visited_count ask a.at.chain a.k _ k.ensures true _ m.ensures rows.result times.result _ c.visit-g.ensures.2),
+    )
+
+
+-- what an entry counts is at most 8
+each-few : (t : ℕ) (c : visit-After-with_stem-stem t) → c.with_stem-stem.result.visits ≤ 7
+each-few t c = omega (arith, c.with_stem-stem.ensures.2, prefix_two (reply c.args.sheet.now) (take c.args.at.end c.args.word.now))
+
+pub visit-overflow_add-each : goal.visit-overflow_add-each
+visit-overflow_add-each t c = omega (arith, each-few t (goal.at.visit-overflow_add-each t c).After-with_stem-stem)
+
+pub visit-counted-visits-requires : goal.visit-counted-visits-requires
+visit-counted-visits-requires t c = (omega (arith, c.requires.6), omega (arith, each-few t (goal.at.visit-counted-visits-requires t c).After-with_stem-stem))
+
+pub visit-returns-then-progressive : goal.visit-returns-then-progressive
+visit-returns-then-progressive t c =
+    let a = c.args in
+    let s = c.with_stem-stem in
+    let p = take a.at.end a.word.now in
+    let ask = reply a.sheet.now in
+    let e = sym c.has_supported_progressive_form-progressive.ensures ∙ c.if-progressive.true in (
+      piece-progressive a.word.now p ask a.surface a.at.chain a.at.rows (kept_of a.out.now a.n) _ s.ensures.0 (4 - a.at.chain.count) e,
+      s.ensures.1,
+      piece_stopped ask a.at.rows a.at.times p _ s.ensures.2 _ (4 - a.at.chain.count) e c.counted-visits.ensures.0,
+    )
+
+pub visit-returns-then-chain-ge-STRIPS : goal.visit-returns-then-chain-ge-STRIPS
+visit-returns-then-chain-ge-STRIPS t c =
+    let a = c.args in
+    let s = c.with_stem-stem in
+    let p = take a.at.end a.word.now in
+    let ask = reply a.sheet.now in (
+      piece-last a.word.now p ask a.surface a.at.chain a.at.rows (kept_of a.out.now a.n) _ s.ensures.0 (4 - a.at.chain.count) (omega (arith, c.if-chain-ge-STRIPS.true)),
+      s.ensures.1,
+      piece_deepest ask a.at.rows a.at.times p _ s.ensures.2 _ (4 - a.at.chain.count) (omega (arith, c.if-chain-ge-STRIPS.true)) c.counted-visits.ensures.0,
+    )
+
+pub visit-counted-v-requires : goal.visit-counted-v-requires
+visit-counted-v-requires t c = (c.entries.ensures.1, omega (arith, each-few t (goal.at.visit-counted-v-requires t c).After-with_stem-stem))
+
+pub visit-loop-k-init : goal.visit-loop-k-init
+visit-loop-k-init t c =
+    let a = c.args in
+    let s = c.with_stem-stem in
+    let p = take a.at.end a.word.now in
+    let ask = reply a.sheet.now in
+    let n : 4 - a.at.chain.count ≡ suc (3 - a.at.chain.count) = omega (arith, c.if-chain-ge-STRIPS.false) in (
+      omega arith,
+      s.ensures.1,
+      refl,
+      rw (sub-zero a.at.rows),
+      rw (sub-zero a.at.rows)
+          (ap (λ (d : ℕ). weighed d ask a.at.rows a.at.times p) n
+          ∙ piece_begun ask a.at.rows a.at.times p _ s.ensures.2 _ _ (3 - a.at.chain.count)
+          (sym c.has_supported_progressive_form-progressive.ensures ∙ c.if-progressive.false) c.entries.ensures.0 c.counted-v.ensures.0),
+    )
+
+pub visit-below-r-requires : goal.visit-below-r-requires
+visit-below-r-requires t c =
+    (omega (arith, c.decreases), (c.requires.0, c.requires.1, c.requires.2, c.if-chain-ge-STRIPS.false, omega (arith, c.loop-k-test.true, c.requires.4), (omega (arith, c.loop-k.invariant.2, c.with_stem-stem.auto.out, c.requires.5.0), c.loop-k.invariant.1), c.requires.6))
+
+-- a turn of the count
+turned : (each : ℕ → ℕ) (whole v k rows r : ℕ) → k < rows → whole ≡ v + total_rows each k (rows - k) → r ≡ each k → whole ≡ (v + r) + total_rows each (k + 1) (rows - (k + 1))
+turned each whole v k rows r h i e = omega (arith, i, rows_next each k rows h)
+
+pub visit-overflow_add-v : goal.visit-overflow_add-v
+visit-overflow_add-v t c =
+    let a = c.args in
+    let p = take a.at.end a.word.now in
+    let ask = reply a.sheet.now in
+    omega (
+      arith,
+      turned (row_weighed (weighed (3 - a.at.chain.count) ask) a.at.times p) _ _ c.loop-k.k a.at.rows _ c.loop-k-test.true c.loop-k.invariant.4 c.below-r.ensures.2,
+      weighed-fits ask (4 - a.at.chain.count) a.at.rows a.at.times p (omega arith) c.requires.4 c.requires.6,
+    )
+
+pub visit-loop-k-preserved-then-ends : goal.visit-loop-k-preserved-then-ends
+visit-loop-k-preserved-then-ends t c =
+    let a = c.args in
+    let l = c.loop-k in
+    let p = take a.at.end a.word.now in
+    let ask = reply a.sheet.now in (
+      omega (arith, c.loop-k-test.true),
+      c.below-r.ensures.1,
+      c.below-r.auto.out ∙ l.invariant.2,
+      l.invariant.3
+          ∙ row_turn a.word.now p (piece_walk (3 - a.at.chain.count) ask a.surface) ask a.at.chain l.k a.at.rows (kept_of l.out l.f) _ c.loop-k-test.true c.below-r.ensures.0,
+      turned (row_weighed (weighed (3 - a.at.chain.count) ask) a.at.times p) _ _ l.k a.at.rows _ c.loop-k-test.true l.invariant.4 c.below-r.ensures.2,
+    )
+
+pub visit-loop-k-preserved : goal.visit-loop-k-preserved
+visit-loop-k-preserved t c =
+    let a = c.args in
+    let l = c.loop-k in
+    let p = take a.at.end a.word.now in
+    let ask = reply a.sheet.now in
+    let n = sym c.ends.ensures ∙ c.if-ends.false in (
+      omega (arith, c.loop-k-test.true),
+      l.invariant.1,
+      l.invariant.2,
+      l.invariant.3 ∙ row_pass a.word.now p (piece_walk (3 - a.at.chain.count) ask a.surface) ask a.at.chain l.k a.at.rows (kept_of l.out l.f) c.loop-k-test.true n,
+      omega (
+        arith,
+        turned (row_weighed (weighed (3 - a.at.chain.count) ask) a.at.times p) _ _ l.k a.at.rows 0 c.loop-k-test.true l.invariant.4
+        (sym (row_zero_ends (weighed (3 - a.at.chain.count) ask) a.at.times p l.k n)),
+      ),
+    )
+
+pub visit-returns : goal.visit-returns
+visit-returns t c =
+    let a = c.args in
+    let l = c.loop-k in
+    let s = c.with_stem-stem in
+    let p = take a.at.end a.word.now in
+    let ask = reply a.sheet.now in
+    let n : 4 - a.at.chain.count ≡ suc (3 - a.at.chain.count) = omega (arith, c.if-chain-ge-STRIPS.false) in (
+      sym (row-end a.word.now p (piece_walk (3 - a.at.chain.count) ask a.surface) ask a.at.chain l.k a.at.rows (kept_of l.out l.f) c.loop-k-test.false)
+          ∙ sym l.invariant.3
+          ∙ piece-rows a.word.now p ask a.surface a.at.chain a.at.rows (kept_of a.out.now a.n) _ s.ensures.0 (3 - a.at.chain.count)
+          (sym c.has_supported_progressive_form-progressive.ensures ∙ c.if-progressive.false)
+          ∙ ap (λ (d : ℕ). plus_all a.word.now (kept_of a.out.now a.n) (piece_walk d ask a.surface a.at.chain a.at.rows p)) (sym n),
+      l.invariant.1,
+      omega (arith, l.invariant.4, rows_end (row_weighed (weighed (3 - a.at.chain.count) ask) a.at.times p) l.k a.at.rows c.loop-k-test.false),
+    )
