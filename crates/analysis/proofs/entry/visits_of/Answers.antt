@@ -11,35 +11,27 @@ use Rattle.analysis.specs.declared.entry.Visits.TheVariants as visits
 use Rattle.analysis.specs.Answers.{said_of, visits_given, visits_answer}
 use Rattle.analysis.proofs.Promises.{visits_said, visits-said}
 use Rattle.analysis.proofs.entry.visits_of.Goals as goal
-use Rattle.analysis.proofs.entry.visits_of.Lts.View.{up-After-analyze_affixes-analysis}
-use Rattle.analysis.proofs.entry.visits_of.Goals.{After-analyze_affixes-analysis, After-is_seven}
+use Rattle.analysis.proofs.entry.visits_of.Goals.{After-is_seven}
 
 -- the answer, by what is said
-module _ (c : After-analyze_affixes-analysis) where
-  abbrev w : List ℕ
-  w = c.args.word.now
-
-  abbrev s : List ℕ
-  s = c.args.sheet.now
-
-  said-by : (x : Said) → c.analyze_affixes-analysis.result.said ≡ x → visits_said x c.analyze_affixes-analysis.result.visits ≡ visits_answer w s
-  said-by x e = ap₂ visits_said (sym e ∙ c.analyze_affixes-analysis.ensures.0) c.analyze_affixes-analysis.ensures.3 ∙ visits-said w s
+said-by : (w s : List ℕ) (said x : Said) (n : ℕ) → said ≡ said_of w s → n ≡ visits_given w s → said ≡ x → visits_said x n ≡ visits_answer w s
+said-by w s said x n p q e = ap₂ visits_said (sym e ∙ p) q ∙ visits-said w s
 
 -- the refusal, by whether it is 7
-seven : (k : After-is_seven) (b : Bool) → k.is_seven.result ≡ b
-    → let i = k in let a = i in
-    pick b (visits.Given a.analyze_affixes-analysis.result.visits) (visits.Refused i.in-Refused.refusal) ≡ visits_answer (w (up-After-analyze_affixes-analysis _ _ _ k.before.before.before.before.before)) (s (up-After-analyze_affixes-analysis _ _ _ k.before.before.before.before.before))
-seven k b e =
-    let i = k in
-    let a = i in
-    ap (λ (x : Bool). pick x (visits.Given a.analyze_affixes-analysis.result.visits) (visits.Refused i.in-Refused.refusal)) (sym e ∙ k.is_seven.ensures)
-    ∙ said-by (up-After-analyze_affixes-analysis _ _ _ k.before.before.before.before.before) _ i.in-Refused.is
+seven : (c : After-is_seven) (b : Bool) → c.is_seven.result ≡ b
+    → pick b (visits.Given c.analyze_affixes-analysis.result.visits) (visits.Refused c.in-Refused.refusal) ≡ visits_answer c.args.word.now c.args.sheet.now
+seven c b e =
+    let a = c.analyze_affixes-analysis in
+    ap (λ (x : Bool). pick x (visits.Given a.result.visits) (visits.Refused c.in-Refused.refusal)) (sym e ∙ c.is_seven.ensures)
+    ∙ said-by c.args.word.now c.args.sheet.now _ _ _ a.ensures.0 a.ensures.3 c.in-Refused.is
 
 pub returns-then-is_seven : goal.returns-then-is_seven
 returns-then-is_seven c = seven (goal.at.returns-then-is_seven c).After-is_seven _ c.if-is_seven.true
 
 pub returns-in-Listed : goal.returns-in-Listed
-returns-in-Listed c = said-by (goal.at.returns-in-Listed c).After-analyze_affixes-analysis _ c.in-Listed.is
+returns-in-Listed c =
+    let a = c.analyze_affixes-analysis in
+    said-by c.args.word.now c.args.sheet.now _ _ _ a.ensures.0 a.ensures.3 c.in-Listed.is
 
 pub returns-else-is_seven : goal.returns-else-is_seven
 returns-else-is_seven c = seven (goal.at.returns-else-is_seven c).After-is_seven _ c.if-is_seven.false
