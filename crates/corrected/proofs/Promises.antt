@@ -1,6 +1,6 @@
 -- Request (c) as theorems: which lines the outcome has, that it is accepted and no other sheet has these lines, what it replies; a line put and
 -- withdrawn again; a line put twice; what stands behind the new length; freed length; the order of the numbers. Assumes nothing.
-use Prim.Native.Nat.{ℕ, ◌+◌, ◌-◌, ◌≤◌}
+use Prim.Native.Nat.{ℕ, ◌+◌, ◌≤◌}
 use native.Mathlib.Omega.{arith}
 use mathlib.Core.Path.{◌≡◌, refl, sym, ap, subst, ◌∙◌}
 use mathlib.Core.Bool.{Bool, true, false}
@@ -14,7 +14,6 @@ use Rattle.sheet.specs.Forms.{Entry, entry_of, key, key_of}
 use Rattle.sheet.specs.Lines.{lines_of, sheet_text, sheet_check}
 use Rattle.sheet.specs.Replies.{unknown, told, reply_in, reply, Alike}
 use Rattle.sheet.specs.declared.check.SheetCheck.TheVariants as sheets
-use Rattle.sheet.specs.declared.inputs.Inputs.TheVariants.{Accepted}
 use Rattle.sheet.proofs.Accepted.{accepted-short}
 use Rattle.sheet.proofs.Texts.{Good, Rises, form_good, accepted_rises, accepted-text, lines-back, text-accepted}
 use Rattle.corrected.specs.Sets.{is_single, without, having, placed, in_order, put_text, withdrawn_text}

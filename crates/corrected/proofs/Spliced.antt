@@ -4,10 +4,10 @@ use native.Mathlib.Omega.{arith}
 use native.Mathlib.Numerals.{add-one}
 use native.Mathlib.Nat.{add-suc, suc-add, sub-zero}
 use mathlib.Core.Path.{◌≡◌, sym, ap, ◌∙◌}
-use mathlib.Core.List.{List, [], ◌∷◌, ◌++◌, append_assoc, append-nil}
+use mathlib.Core.List.{List, [], ◌∷◌, ◌++◌, append_assoc}
 use lib.ListN.{length, take, drop, get_or, set, length-drop}
-use borrow.Rule.Slice.PartMut.{mid_of, put_mid, mid_len, Post-is}
-use lib.Seq.{drop-length, take-nil, paste, paste-suc, drop-paste, take-paste, length-paste, take-suc, set_at, take_at, drop_at, take-take, take-length, drop-cons, get_or-drop, get_or-take, length-take-le}
+use borrow.Rule.Slice.PartMut.{put_mid, Post-is}
+use lib.Seq.{take-nil, paste, paste-suc, drop-paste, take-paste, length-paste, take-suc, set_at, take_at, drop_at, take-take, drop-cons, get_or-drop, get_or-take, length-take-le}
 
 -- a byte that lies from `low` on is as it was where all from there on is; one before `high` where all before it is
 pub behind_same : (a b : List ℕ) (low i : ℕ) → low ≤ i → drop low a ≡ drop low b → get_or a i 0 ≡ get_or b i 0

@@ -3,7 +3,7 @@
 use mathlib.Core.Path.{◌≡◌, refl, sym, ap, subst, ◌∙◌}
 use mathlib.Core.Bool.{Bool, true, false}
 use mathlib.Core.List.{List, [], ◌∷◌, ◌++◌}
-use Prim.Native.Nat.{ℕ, zero, suc, ◌+◌, ◌-◌, ◌/◌, ◌≤◌, ◌<◌}
+use Prim.Native.Nat.{ℕ, zero, suc, ◌+◌, ◌-◌, ◌≤◌, ◌<◌}
 use native.Mathlib.Omega.{arith}
 use lib.ListN.{length, take, drop, get_or, length-append, length-drop, length-take}
 use lib.Seq.{take_all, drop-drop, get_or-drop, get_or-take}
@@ -17,9 +17,8 @@ use Rattle.sheet.specs.Lines.{line_at}
 use Rattle.sheet.specs.Replies.{Reply, reply, Indexed}
 use Rattle.lookup.specs.declared.begins.Edge.{Edge}
 use Rattle.lookup.specs.declared.begins.Range.{Range}
-use Rattle.lookup.specs.declared.search.Found.{Found}
 use Rattle.lookup.specs.declared.search.Found.TheVariants.{At, Nothing}
-use Rattle.lookup.specs.Search.{place_in, judge, Sought}
+use Rattle.lookup.specs.Search.{place_in, judge}
 use Rattle.lookup.specs.Begins.{headed_at, Begun, Edged, Ended}
 use Rattle.sheet.specs.Keys.{headed}
 use Rattle.sheet.proofs.Spaced.{head-parts}

@@ -6,13 +6,12 @@ use mathlib.Core.List.{List, [], ◌∷◌, ◌++◌, append_assoc}
 use Prim.Native.Nat.{ℕ, zero, suc, ◌+◌, ◌-◌, ◌*◌, ◌/◌, ◌<◌, ◌≤◌}
 use native.Mathlib.Numerals.{add-one}
 use native.Mathlib.Omega.{arith}
-use lib.ListN.{length, take, drop, get_or, set, length-append, length-drop, drop_of_length-le, take-append-drop}
-use lib.Seq.{drop-cons, drop-drop, drop_at, take_at, take-suc-set, drop-set-lt, length-take-le, get_or-drop}
+use lib.ListN.{length, take, drop, get_or, set, length-append, take-append-drop}
+use lib.Seq.{drop-drop, drop_at, take_at, take-suc-set, drop-set-lt, length-take-le, get_or-drop}
 use lib.Dec.{eqb, ltb}
 use borrow.Author.Tests.{ltb-true, ltb-false}
-use Rattle.runs.specs.Runs.{pick}
 use Rattle.sheet.specs.Forms.{key}
-use Rattle.sheet.specs.Limits.{sheet_limit, shortest_line, line_limit, small_limit}
+use Rattle.sheet.specs.Limits.{shortest_line, line_limit, small_limit}
 use Rattle.sheet.specs.Lines.{line_at, starts_from, starts_of, sheet_check}
 use Rattle.sheet.specs.Steps.{value_end}
 use Rattle.sheet.specs.Replies.{Indexed}

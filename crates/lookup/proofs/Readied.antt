@@ -11,7 +11,6 @@ use Rattle.text.specs.declared.word.WordCheck.{WordCheck}
 use Rattle.text.specs.declared.word.WordCheck.TheVariants as words
 use Rattle.sheet.specs.Lines.{starts_of, sheet_check}
 use Rattle.sheet.specs.Replies.{Indexed}
-use Rattle.sheet.proofs.Refusals.{accepted-each}
 use Rattle.sheet.specs.Inputs.{by_sheet, by_word_then, inputs_of}
 use Rattle.sheet.specs.declared.check.SheetCheck.{SheetCheck}
 use Rattle.sheet.specs.declared.check.SheetCheck.TheVariants as sheets

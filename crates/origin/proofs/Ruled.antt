@@ -7,7 +7,7 @@ use mathlib.Core.Bool.{Bool, true, false, ◌&&◌, ◌||◌}
 use mathlib.Core.List.{List, [], ◌∷◌, ◌++◌}
 use lib.ListN.{length, drop, get_or, drop_of_length-le}
 use lib.Seq.{get_or-drop, drop-cons}
-use lib.Dec.{eqb, ltb, leb}
+use lib.Dec.{ltb, leb}
 use borrow.Author.Tests.{eq-eqb, ne_eqb, leb-true, ltb-true, le-ltb}
 use Rattle.runs.specs.Runs.{pick, same_text, begins_with, ends_in}
 use Rattle.runs.proofs.Begins.{begins-front, and_left, and_right}
@@ -18,7 +18,7 @@ use Rattle.tables.specs.declared.origins.Origin.{Origin}
 use Rattle.tables.specs.declared.origins.OriginFound.TheVariants.{Unlisted}
 use Rattle.tables.proofs.Compared.{ends_is}
 use Rattle.tables.proofs.Tested.{every}
-use Rattle.strips.specs.Suffix.{sheds, is_long, plain, shared, remainders, first_length}
+use Rattle.strips.specs.Suffix.{sheds, plain, shared, remainders, first_length}
 use Rattle.sheet.specs.Replies.{Ask}
 use Rattle.origin.specs.Marks.{contains, some, contains_one, begins_one, aagantuk_marks, nukta, after_first, has_aagantuk_markers, tatsam_marks, has_tatsam_markers}
 use Rattle.origin.proofs.Marked.{contains_at}

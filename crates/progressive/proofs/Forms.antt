@@ -1,16 +1,16 @@
 -- What the found lemmas say of the progressive form of a word. The proof of `find_progressive` cites it. Assumes nothing.
 use mathlib.Core.Path.{◌≡◌, refl, sym, ap, ◌∙◌}
 use mathlib.Core.Bool.{Bool, true, false, ◌&&◌}
-use mathlib.Core.List.{List, []}
-use Prim.Native.Nat.{ℕ, ◌+◌, ◌-◌, ◌≤◌}
+use mathlib.Core.List.{List}
+use Prim.Native.Nat.{ℕ, ◌-◌}
 use native.Mathlib.Omega.{arith}
 use lib.ListN.{length, take, drop}
 use Rattle.runs.specs.Runs.{pick, begins_with}
-use Rattle.sheet.specs.Replies.{Reply, reply}
+use Rattle.sheet.specs.Replies.{reply}
 use Rattle.lookup.specs.declared.answers.Spot.{Spot}
 use Rattle.progressive.specs.declared.find.Progressive.{Progressive}
-use Rattle.progressive.specs.Progressive.{rahanu, letter_na, is_verb, Lemma, none, lemma, lemma_of, Outcome, no, yes, first, negative, linked_of, stem_of, is_shaped, progressive_of, searched, is_yes, is_progressive}
-use Rattle.progressive.specs.Found.{LemmaAt, name_at, no_form, form_with, form_of, lemma_name, part_at, FormAt}
+use Rattle.progressive.specs.Progressive.{rahanu, letter_na, is_verb, Lemma, lemma, lemma_of, Outcome, no, yes, first, negative, linked_of, stem_of, is_shaped, progressive_of, searched, is_yes, is_progressive}
+use Rattle.progressive.specs.Found.{LemmaAt, no_form, form_with, form_of, lemma_name, FormAt}
 use Rattle.progressive.proofs.Verbs.{none_found, some-found}
 
 module _ (s w : List ℕ) where

@@ -1,15 +1,15 @@
 -- The shape of a progressive form: its three endings, the character before them, and how long such a word is at least.
 -- The proofs of `is_shaped` and `find_progressive` cite it. Assumes nothing.
-use mathlib.Core.Path.{◌≡◌, refl, sym, ap, ◌∙◌}
+use mathlib.Core.Path.{◌≡◌, refl, ap, ◌∙◌}
 use mathlib.Core.Bool.{Bool, true, false, ◌&&◌, ◌||◌}
 use mathlib.Core.List.{List, [], ◌∷◌, ◌++◌}
-use Prim.Native.Nat.{ℕ, zero, suc, ◌+◌, ◌-◌, ◌≤◌}
+use Prim.Native.Nat.{ℕ, zero, suc, ◌-◌, ◌≤◌}
 use native.Mathlib.Omega.{arith}
 use native.Mathlib.Nat.{sub-zero}
 use lib.Seq.{take-nil}
 use lib.ListN.{length, take, drop, length-take, length-append}
-use Rattle.runs.specs.Runs.{pick, begins_with, ends_in}
-use Rattle.runs.proofs.Begins.{and_left, and_right, begins-front}
+use Rattle.runs.specs.Runs.{begins_with, ends_in}
+use Rattle.runs.proofs.Begins.{and_right, begins-front}
 use Rattle.runs.proofs.Ends.{ends-fits}
 use Rattle.sheet.specs.Forms.{sign_i, letter_i}
 use Rattle.progressive.specs.Progressive.{raheko, raheki, raheka, letter_na, linked_of, is_shaped}

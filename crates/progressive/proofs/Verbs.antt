@@ -2,11 +2,10 @@
 -- The proofs of `verb_at`, `regular_lemma`, `linked_verb`, `supported_infinitive` and `find_progressive` cite it. Assumes nothing.
 use mathlib.Core.Path.{◌≡◌, refl, sym, ap, ◌∙◌}
 use mathlib.Core.Bool.{Bool, true, false, ◌||◌}
-use mathlib.Core.List.{List, [], ◌∷◌, ◌++◌, append-nil}
+use mathlib.Core.List.{List, [], ◌++◌, append-nil}
 use Prim.Native.Nat.{ℕ, ◌+◌, ◌-◌}
 use native.Mathlib.Omega.{arith}
 use lib.ListN.{length, take, drop}
-use lib.Dec.{eqb}
 use borrow.Author.Tests.{eq-eqb, ne_eqb}
 use Rattle.runs.specs.Runs.{pick, ends_in}
 use Rattle.sheet.specs.Forms.{syllable_nu}
@@ -14,7 +13,7 @@ use Rattle.sheet.specs.Replies.{Reply, reply, letters_told}
 use Rattle.lookup.specs.declared.answers.Spot.{Spot}
 use Rattle.lookup.specs.Answers.{text_at, no_spot, named, NameOf}
 use Rattle.progressive.specs.Progressive.{virama, sign_aa, letter_aa, letter_u, is_verb, Lemma, none, lemma, verb_or, regular, verb_told, decided, lemma_of}
-use Rattle.progressive.specs.Found.{LemmaAt, name_at}
+use Rattle.progressive.specs.Found.{LemmaAt}
 
 module _ (s : List ℕ) (r : Spot) where
   pub none_found : (l : Lemma) → LemmaAt s l r → r.found ≡ false → l ≡ none

@@ -1,5 +1,5 @@
 -- Progressive forms (document 01, progressive.rs), said of replies. Assumes nothing.
-use Rattle.std.specs.Prelude.{ℕ, ◌-◌, Bool, true, false, not, ◌&&◌, ◌||◌, List, [], ◌∷◌, ◌++◌, length, take, drop, eqb}
+use Rattle.std.specs.Prelude.{ℕ, ◌-◌, Bool, true, false, ◌&&◌, ◌||◌, List, [], ◌∷◌, ◌++◌, length, take, drop, eqb}
 use Rattle.runs.specs.Runs.{pick, begins_with, ends_in}
 use Rattle.sheet.specs.Forms.{sign_i, letter_i, syllable_nu}
 use Rattle.sheet.specs.Replies.{Reply, unknown, told, Ask, letters_by}

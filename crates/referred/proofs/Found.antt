@@ -4,21 +4,17 @@ use Prim.Native.Nat.{ℕ, zero, suc, ◌+◌, ◌-◌, ◌*◌, ◌/◌, ◌%◌
 use native.Mathlib.Numerals.{add-one}
 use native.Mathlib.Omega.{arith}
 use mathlib.Core.Path.{◌≡◌, refl, sym, ap, subst, ◌∙◌}
-use mathlib.Core.Bool.{Bool, true, false}
-use mathlib.Core.List.{List, [], ◌∷◌, ◌++◌, map, append-nil}
-use lib.ListN.{length, take, drop, get_or, length-append, drop_of_length-le}
-use lib.Seq.{drop-cons, length-take-le}
-use lib.Dec.{eqb}
-use borrow.Author.Tests.{eq-eqb, ne_eqb}
-use Rattle.runs.specs.Runs.{pick, cmp, same_text}
+use mathlib.Core.Bool.{true, false}
+use mathlib.Core.List.{List, [], ◌∷◌, ◌++◌}
+use lib.ListN.{length, take, drop, get_or, drop_of_length-le}
+use lib.Seq.{drop-cons}
+use Rattle.runs.specs.Runs.{cmp, same_text}
 use Rattle.runs.specs.declared.Order.{Order}
 use Rattle.runs.proofs.Ordered.{is_equal, same_cmp}
 use Rattle.sheet.specs.Forms.{is_form, key, key_of}
 use Rattle.sheet.specs.Lines.{starts_of, line_at, sheet_check}
-use Rattle.sheet.specs.Replies.{Indexed, reply}
 use Rattle.sheet.specs.declared.check.SheetCheck.TheVariants.{Accepted}
 use Rattle.sheet.proofs.Accepted.{GoesUp, accepted_up}
-use Rattle.writing.specs.Decimal.{decimal}
 use Rattle.sheet.specs.Steps.{name_end}
 use Rattle.referred.proofs.Refers.{name-cut}
 use Rattle.referred.specs.declared.Fault.{Fault}

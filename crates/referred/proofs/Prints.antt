@@ -1,15 +1,14 @@
 -- What the program prints: its buffer has room for the longest report, and for the line of a refusal. The proof of whole.rt cites these.
 -- Assumes nothing.
-use Prim.Native.Nat.{ℕ, ◌+◌, ◌≤◌, ◌<◌}
+use Prim.Native.Nat.{ℕ, ◌≤◌, ◌<◌}
 use native.Mathlib.Omega.{arith}
-use mathlib.Core.Path.{◌≡◌, refl, sym, ap, subst, ◌∙◌}
-use mathlib.Core.Bool.{Bool, true, false}
-use mathlib.Core.List.{List, [], ◌∷◌, ◌++◌}
+use mathlib.Core.Path.{◌≡◌, refl, ap, subst, ◌∙◌}
+use mathlib.Core.Bool.{true}
+use mathlib.Core.List.{List, [], ◌∷◌}
 use lib.ListN.{length, length-append}
 use lib.Dec.{leb}
 use borrow.Author.Tests.{le-leb}
-use Rattle.runs.specs.Runs.{pick}
-use Rattle.refusals.specs.Refusals.{numbers_of, room_for, output_by}
+use Rattle.refusals.specs.Refusals.{numbers_of, output_by}
 use Rattle.refusals.specs.declared.Refusal.{Refusal}
 use Rattle.refusals.specs.declared.Refusal.TheVariants.{SheetTooLong, SheetNoForm, SheetNotAbove}
 use Rattle.refusals.specs.declared.Written.{Written}
@@ -17,8 +16,6 @@ use Rattle.refusals.specs.declared.Written.TheVariants.{Wrote, Refused}
 use Rattle.sheet.specs.Limits.{sheet_limit}
 use Rattle.sheet.specs.Inputs.{by_sheet}
 use Rattle.sheet.specs.Lines.{sheet_check}
-use Rattle.sheet.specs.declared.inputs.Inputs.{Inputs}
-use Rattle.sheet.specs.declared.inputs.Inputs.TheVariants as inputs
 use Rattle.sheet.specs.declared.check.SheetCheck.{SheetCheck}
 use Rattle.sheet.specs.declared.check.SheetCheck.TheVariants as sheets
 use Rattle.sheet.proofs.Accepted.{accepted-short}

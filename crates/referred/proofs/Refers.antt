@@ -1,11 +1,10 @@
 -- What is wrong with one line, test by test. The proofs of faults.rt cite these. Assumes nothing.
 use Prim.Native.Nat.{ℕ, ◌+◌, ◌-◌, ◌≤◌, ◌<◌}
 use native.Mathlib.Omega.{arith}
-use mathlib.Core.Path.{◌≡◌, refl, sym, ap, subst, ◌∙◌}
-use mathlib.Core.Bool.{Bool, true, false}
-use mathlib.Core.List.{List, [], ◌∷◌, ◌++◌, append-nil}
+use mathlib.Core.Path.{◌≡◌, sym, ap, ◌∙◌}
+use mathlib.Core.Bool.{Bool, true}
+use mathlib.Core.List.{List, [], ◌++◌, append-nil}
 use lib.ListN.{length, take, drop, get_or}
-use lib.Dec.{eqb}
 use borrow.Author.Tests.{eq-eqb, ne_eqb}
 use Rattle.runs.specs.Runs.{pick, cmp, same_text}
 use Rattle.runs.specs.declared.Order.{Order}
@@ -13,12 +12,12 @@ use Rattle.runs.proofs.Ordered.{is_equal, same_cmp}
 use Rattle.tables.specs.Tables.{Laid, row_at, affixes}
 use Rattle.tables.proofs.Laid.{laid-row}
 use Rattle.tables.proofs.Facts.{affix_count}
-use Rattle.sheet.specs.Limits.{sheet_limit, shortest_line}
+use Rattle.sheet.specs.Limits.{sheet_limit}
 use Rattle.sheet.specs.Letters.{letters_of}
-use Rattle.sheet.specs.Forms.{Entry, is_form, key, key_of}
+use Rattle.sheet.specs.Forms.{is_form, key, key_of}
 use Rattle.sheet.specs.Lines.{line_at}
 use Rattle.sheet.specs.Steps.{name_end, value_end}
-use Rattle.sheet.specs.Replies.{Indexed, Reply, reply}
+use Rattle.sheet.specs.Replies.{Indexed, reply}
 use Rattle.sheet.specs.declared.letters.Letters.{Letters}
 use Rattle.sheet.proofs.Forms.{line-letter, line_long, line-fits, name-text, value-text}
 use Rattle.sheet.proofs.Accepted.{accepted-short}
@@ -27,7 +26,7 @@ use Rattle.lookup.specs.declared.answers.Spot.{Spot}
 use Rattle.lookup.proofs.Parts.{read}
 use Rattle.lookup.proofs.Settled.{indexed-form}
 use Rattle.referred.specs.declared.Fault.{Fault}
-use Rattle.referred.specs.declared.Fault.TheVariants.{Sound, Missing, NotVerb, Unused}
+use Rattle.referred.specs.declared.Fault.TheVariants.{Sound, NotVerb, Unused}
 use Rattle.referred.specs.Report.{verb_fault, is_text, fault_of, fault_at}
 
 -- a line compared with the question for text k tells whether it names it

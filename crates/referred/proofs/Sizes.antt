@@ -1,10 +1,10 @@
 -- How long a report is: no line of it is longer than the line that it speaks of. Assumes nothing.
-use Prim.Native.Nat.{ℕ, zero, suc, ◌+◌, ◌≤◌, ◌<◌}
+use Prim.Native.Nat.{ℕ, suc, ◌+◌, ◌≤◌, ◌<◌}
 use native.Mathlib.Omega.{arith}
-use mathlib.Core.Path.{◌≡◌, refl, sym, ap, subst, ◌∙◌}
+use mathlib.Core.Path.{◌≡◌, refl, ap}
 use mathlib.Core.Bool.{Bool, true, false, ◌&&◌, ◌||◌}
 use mathlib.Core.List.{List, [], ◌∷◌, ◌++◌, map}
-use lib.ListN.{length, take, drop, get_or, length-append}
+use lib.ListN.{length, drop, length-append}
 use lib.Dec.{eqb}
 use borrow.Author.Tests.{eqb-true}
 use Rattle.runs.specs.Runs.{pick, same_text, ends_in}
@@ -13,12 +13,11 @@ use Rattle.runs.proofs.Ends.{ends-fits}
 use Rattle.runs.proofs.Begins.{and_right}
 use Rattle.tables.specs.Tables.{affixes}
 use Rattle.sheet.specs.Letters.{letters_of, is_letters}
-use Rattle.sheet.specs.Forms.{Entry, written, is_name, is_kind, is_meant, is_form, key, sign_i, letter_i, syllable_nu}
-use Rattle.sheet.specs.Lines.{starts_of, line_at, lines_of, sheet_text, sheet_check}
-use Rattle.sheet.specs.Limits.{sheet_limit, line_limit}
+use Rattle.sheet.specs.Forms.{Entry, written, is_name, is_kind, is_meant, key, sign_i, letter_i, syllable_nu}
+use Rattle.sheet.specs.Lines.{starts_of, line_at, sheet_text, sheet_check}
 use Rattle.sheet.specs.Replies.{Ask, Reply, reply}
 use Rattle.sheet.specs.declared.check.SheetCheck.TheVariants.{Accepted}
-use Rattle.sheet.proofs.Accepted.{GoesUp, accepted_up, accepted-short}
+use Rattle.sheet.proofs.Accepted.{GoesUp, accepted_up}
 use Rattle.sheet.proofs.Forms.{written-length, form_meant}
 use Rattle.sheet.proofs.Texts.{accepted-text}
 use Rattle.lookup.proofs.Count.{few-lines}
@@ -26,7 +25,7 @@ use Rattle.writing.specs.Decimal.{decimal}
 use Rattle.writing.proofs.Sizes.{count-size, more-size}
 use Rattle.referred.specs.declared.Fault.{Fault}
 use Rattle.referred.specs.declared.Fault.TheVariants.{Sound, Missing, NotVerb, Unused}
-use Rattle.referred.specs.Report.{verb_fault, is_text, fault_of, fault_at, Finding, found, findings_at, findings_of, before, behind, finding_line, finding_lines, report_text}
+use Rattle.referred.specs.Report.{verb_fault, is_text, fault_of, fault_at, Finding, found, findings_at, findings_of, finding_line, finding_lines, report_text}
 
 -- a number below 10,000 has at most four digits
 four_size : (n : ℕ) → n < 10000 → length (decimal n) ≤ 4

@@ -1,5 +1,5 @@
 -- The report as it is written from codes. Assumes nothing.
-use Rattle.std.specs.Prelude.{ℕ, ◌/◌, ◌%◌, ◌≡◌, Bool, true, false, List, [], ◌∷◌, ◌++◌, length, drop, eqb}
+use Rattle.std.specs.Prelude.{ℕ, ◌/◌, ◌%◌, ◌≡◌, true, List, [], ◌∷◌, ◌++◌, length, drop, eqb}
 use Rattle.runs.specs.Runs.{pick}
 use Rattle.sheet.specs.Forms.{is_form}
 use Rattle.sheet.specs.Lines.{line_at}

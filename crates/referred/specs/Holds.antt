@@ -1,5 +1,5 @@
 -- That what the lines of a sheet refer to is there, said of the lines alone (document 02 (k)). Assumes nothing.
-use Rattle.std.specs.Prelude.{ℕ, suc, ◌≤◌, ◌≡◌, Bool, true, false}
+use Rattle.std.specs.Prelude.{ℕ, suc, ◌≤◌, ◌≡◌, true}
 use mathlib.Core.List.{List, [], ◌∷◌, Memᴰ}
 use Rattle.tables.specs.Tables.{affixes}
 use Rattle.sheet.specs.Letters.{letters_of}

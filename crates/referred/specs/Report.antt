@@ -1,5 +1,5 @@
 -- What the lines of a sheet refer to, what does not hold of it, and the report (document 02 (k)). Assumes nothing.
-use Rattle.std.specs.Prelude.{ℕ, Bool, true, false, ◌||◌, List, [], ◌∷◌, ◌++◌, length, eqb}
+use Rattle.std.specs.Prelude.{ℕ, Bool, false, ◌||◌, List, [], ◌∷◌, ◌++◌, length, eqb}
 use Rattle.runs.specs.Runs.{pick, same_text}
 use Rattle.tables.specs.Tables.{affixes}
 use Rattle.sheet.specs.Letters.{letters_of}

@@ -4,11 +4,11 @@ use native.Mathlib.Omega.{arith}
 use mathlib.Core.Path.{◌≡◌, refl, sym, ap, ◌∙◌}
 use mathlib.Core.Bool.{Bool, true, false}
 use mathlib.Core.List.{List, [], ◌∷◌, ◌++◌}
-use lib.ListN.{length, drop, get_or, length-append, length-drop}
+use lib.ListN.{length, drop, length-append, length-drop}
 use lib.Dec.{leb, ltb}
 use borrow.Author.Tests.{leb-true, leb-false, le-leb, lt-leb, lt-ltb, le-ltb}
 use Rattle.runs.specs.Runs.{pick}
-use Rattle.refusals.specs.Refusals.{number, places, numbers_of, written_numbers, room_for, output_by, cause_if, lowest_numbers_of}
+use Rattle.refusals.specs.Refusals.{number, places, written_numbers, room_for, output_by, cause_if, lowest_numbers_of}
 use Rattle.refusals.specs.declared.Refusal.{Refusal}
 use Rattle.refusals.specs.declared.Refusal.TheVariants.{WordTooLong, WordNotUtf8, WordForbidden, SheetTooLong, SheetNoForm, SheetNotAbove, TooManyReadings, OutputTooShort, TextTooLong, TextNotUtf8, ListTooShort, NoSingleForm, NothingToWithdraw, NoRoom}
 use Rattle.refusals.specs.declared.Written.{Written}

@@ -1,18 +1,16 @@
 -- What the rescue hands back and leaves, from what was measured and put. The proof of `rescue_sheet` cites these. Assumes nothing.
-use Prim.Native.Nat.{ℕ, ◌+◌, ◌≤◌, ◌<◌, min}
+use Prim.Native.Nat.{ℕ, ◌+◌, ◌≤◌, ◌<◌}
 use native.Mathlib.Omega.{arith}
 use mathlib.Core.Path.{◌≡◌, refl, sym, ap, ◌∙◌}
 use mathlib.Core.Bool.{Bool, true, false, ◌&&◌}
 use mathlib.Core.List.{List, ◌++◌}
 use lib.ListN.{length, drop}
-use lib.Dec.{leb, ltb}
+use lib.Dec.{leb}
 use borrow.Author.Tests.{le-leb, lt-leb, lt-ltb, le-ltb}
-use Rattle.runs.specs.Runs.{pick}
 use Rattle.refusals.specs.declared.Refusal.TheVariants.{SheetTooLong, OutputTooShort}
 use Rattle.sheet.specs.Limits.{sheet_limit}
 use Rattle.writing.specs.Placed.{largest, placed, Wrote}
 use Rattle.rescued.specs.declared.entry.Sizes.{Sizes}
-use Rattle.rescued.specs.declared.entry.Rescued.{Rescued}
 use Rattle.rescued.specs.declared.entry.Rescued.TheVariants as rescued
 use Rattle.rescued.specs.Stretches.{kept_of, report_of}
 use Rattle.rescued.specs.Answers.{rescued_of, kept_left, report_left}

@@ -1,7 +1,7 @@
 -- A text put whole, and a report put part by part. The proofs of part.rt cite these. Assumes nothing.
-use Prim.Native.Nat.{ℕ, ◌+◌, ◌-◌, ◌*◌, ◌≤◌, ◌<◌, min}
+use Prim.Native.Nat.{ℕ, ◌-◌, ◌*◌, ◌≤◌, ◌<◌}
 use native.Mathlib.Omega.{arith}
-use mathlib.Core.Path.{◌≡◌, refl, sym, ap, ◌∙◌}
+use mathlib.Core.Path.{◌≡◌, sym, ap, ◌∙◌}
 use mathlib.Core.List.{List, ◌++◌}
 use lib.ListN.{length, take, drop, length-append}
 use lib.Seq.{take_at, drop_at}
@@ -11,12 +11,11 @@ use Rattle.sheet.specs.declared.walk.Walk.{Walk}
 use Rattle.writing.specs.Placed.{largest, Wrote, Whole}
 use Rattle.writing.proofs.Puts.{Upto, upto-more}
 use Rattle.rescued.specs.declared.walk.Reach.{Reach}
-use Rattle.rescued.specs.declared.part.Part.{Part}
 use Rattle.rescued.specs.Stretches.{cut_line, report_over}
 use Rattle.rescued.specs.Places.{ahead, Stepped}
 use Rattle.rescued.specs.Parts.{Parted}
 use Rattle.rescued.proofs.Answered.{front-put}
-use Rattle.rescued.proofs.Stretched.{report_turn, report_end, cut-size}
+use Rattle.rescued.proofs.Stretched.{report_turn, cut-size}
 
 pub put_whole : (old new text : List ℕ) (r : ℕ) → Wrote old new 0 r text → length text ≤ length old → length old < largest → Whole text old new r
 put_whole old new text r w h k =

@@ -1,35 +1,31 @@
 -- Request (m) as theorems: the stretches are the input exactly; the kept sheet is always accepted; a good sheet comes out unchanged and has
 -- no report line, and no other has none; which number is given; how much room is enough. Assumes nothing.
-use Prim.Native.Nat.{ℕ, zero, suc, ◌+◌, ◌-◌, ◌*◌, ◌<◌, ◌≤◌}
+use Prim.Native.Nat.{ℕ, ◌+◌, ◌-◌, ◌*◌, ◌<◌, ◌≤◌}
 use native.Mathlib.Omega.{arith}
 use mathlib.Core.Path.{◌≡◌, refl, sym, ap, subst, ◌∙◌}
 use mathlib.Core.Bool.{Bool, true, false, ◌&&◌, ◌||◌, not}
 use mathlib.Core.Logic.{◌↔◌, ◌⊎◌, inl, inr, ⊎_elim}
 use mathlib.Core.List.Memᴰ
 use mathlib.Core.List.{List, [], ◌∷◌, ◌++◌, append-nil, Memᴰ}
-use lib.ListN.{length, take, drop, length-append, drop_of_length-le, take-append-drop, length-drop}
-use lib.Seq.{drop-drop, length-take-le, take_at}
+use lib.ListN.{length, take, drop, length-append, drop_of_length-le, take-append-drop}
+use lib.Seq.{drop-drop, take_at}
 use lib.Dec.{leb, ltb}
-use borrow.Author.Tests.{le-leb, lt-leb, lt-ltb, le-ltb, ltb-true, ltb-false, leb-true, leb-false}
-use Rattle.runs.specs.Runs.{pick, cmp}
-use Rattle.runs.specs.declared.Order.TheVariants.{Less}
+use borrow.Author.Tests.{le-leb, lt-ltb, le-ltb, leb-true, leb-false}
+use Rattle.runs.specs.Runs.{pick}
 use Rattle.refusals.specs.Refusals.{cause_if, lowest_numbers_of}
 use Rattle.refusals.specs.declared.Refusal.TheVariants.{SheetTooLong, OutputTooShort}
-use Rattle.sheet.specs.Limits.{sheet_limit, shortest_line}
+use Rattle.sheet.specs.Limits.{sheet_limit}
 use Rattle.sheet.specs.Forms.{Entry, is_form, written, key}
 use Rattle.sheet.specs.Lines.{starts_of, line_at, sheet_text, sheet_check}
 use Rattle.sheet.specs.Steps.{value_end}
-use Rattle.sheet.specs.Walks.{key_before, starts_ahead}
+use Rattle.sheet.specs.Walks.{key_before}
 use Rattle.sheet.specs.declared.check.SheetCheck.TheVariants.{Accepted}
 use Rattle.sheet.specs.declared.walk.Before.{Before}
-use Rattle.sheet.specs.declared.walk.Before.TheVariants.{Nothing, At}
 use Rattle.sheet.specs.declared.walk.Walk.{Walk}
-use Rattle.sheet.proofs.Accepted.{GoesUp, accepted_up, accepted-short}
-use Rattle.sheet.proofs.Forms.{line-bytes, line_long, line-fits, written-length}
+use Rattle.sheet.proofs.Accepted.{GoesUp, accepted_up}
+use Rattle.sheet.proofs.Forms.{line-bytes, line_long, written-length}
 use Rattle.sheet.proofs.Walks.{at_first}
 use Rattle.sheet.proofs.Texts.{Rises, form_good, text-accepted}
-use Rattle.writing.specs.Decimal.{decimal}
-use Rattle.writing.proofs.Sizes.{digit-size, number_size}
 use Rattle.rescued.specs.declared.Fate.{Fate}
 use Rattle.rescued.specs.declared.Fate.TheVariants.{Kept, NoForm, NoOrder}
 use Rattle.rescued.specs.declared.walk.Reach.{Reach}

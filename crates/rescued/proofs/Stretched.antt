@@ -1,6 +1,6 @@
 -- One stretch of a torn sheet after the other: where it ends, what becomes of it, and what is to come. The proofs of walk.rt and entry.rt
 -- cite these. Assumes nothing.
-use Prim.Native.Nat.{ℕ, zero, suc, ◌+◌, ◌-◌, ◌*◌, ◌<◌, ◌≤◌, min}
+use Prim.Native.Nat.{ℕ, suc, ◌+◌, ◌-◌, ◌*◌, ◌<◌, ◌≤◌, min}
 use native.Mathlib.Omega.{arith}
 use mathlib.Core.Path.{◌≡◌, refl, sym, ap, subst, ◌∙◌}
 use mathlib.Core.Bool.{Bool, true, false}
@@ -8,15 +8,14 @@ use mathlib.Core.List.{List, [], ◌∷◌, ◌++◌}
 use lib.ListN.{length, take, drop, get_or, length-append, length-drop}
 use lib.Seq.{drop-cons, drop-drop, take-length}
 use lib.Dec.{eqb, leb, ltb}
-use borrow.Author.Tests.{leb-true, ltb-true, ltb-false, lt-leb}
+use borrow.Author.Tests.{leb-true, ltb-true, ltb-false}
 use Rattle.runs.specs.Bytes.{index_of, index_after, slice}
 use Rattle.runs.specs.Runs.{pick, cmp, is_less}
 use Rattle.sheet.specs.Forms.{is_form, key}
 use Rattle.sheet.specs.Lines.{starts_from, line_at}
 use Rattle.sheet.specs.Steps.{name_end, value_end}
 use Rattle.sheet.specs.Walks.{key_before, Standing, starts_ahead, reached}
-use Rattle.sheet.specs.declared.walk.Before.{Before}
-use Rattle.sheet.specs.declared.walk.Before.TheVariants.{Nothing, At}
+use Rattle.sheet.specs.declared.walk.Before.TheVariants.{At}
 use Rattle.sheet.specs.declared.walk.Walk.{Walk}
 use Rattle.sheet.specs.declared.walk.Reached.{Reached}
 use Rattle.sheet.specs.declared.walk.Reached.TheVariants as step
@@ -26,7 +25,7 @@ use Rattle.writing.proofs.Sizes.{digit-size, number_size}
 use Rattle.rescued.specs.declared.Fate.{Fate}
 use Rattle.rescued.specs.declared.Fate.TheVariants.{Kept, NoForm, NoOrder}
 use Rattle.rescued.specs.declared.walk.Reach.{Reach}
-use Rattle.rescued.specs.Stretches.{Stretch, text_of, fate_at, last_after, end_before, stretches_from, kept_text, cut_head, cut_line, kept_over, report_over}
+use Rattle.rescued.specs.Stretches.{Stretch, fate_at, last_after, end_before, stretches_from, kept_text, cut_head, cut_line, kept_over, report_over}
 use Rattle.rescued.specs.Places.{line_end, ahead, Stepped}
 
 -- how many bytes there are up to the first 0A and with it

@@ -1,9 +1,9 @@
 -- What holds of the stretches to come, shown stretch by stretch. Every theorem about all stretches rests on `walked`. Assumes nothing.
-use Prim.Native.Nat.{ℕ, zero, suc, ◌+◌, ◌-◌, ◌<◌, ◌≤◌}
+use Prim.Native.Nat.{ℕ, zero, suc, ◌+◌, ◌<◌, ◌≤◌}
 use native.Mathlib.Omega.{arith}
 use mathlib.Core.Path.{◌≡◌, refl, sym, ap, subst, ◌∙◌}
 use mathlib.Core.Bool.{Bool, true, false}
-use mathlib.Core.List.{List, [], ◌∷◌}
+use mathlib.Core.List.{List}
 use lib.ListN.{length, drop}
 use lib.Dec.{ltb}
 use borrow.Author.Tests.{ltb-true, ltb-false}
@@ -14,7 +14,7 @@ use Rattle.sheet.specs.Forms.{is_form, key}
 use Rattle.sheet.specs.Lines.{line_at}
 use Rattle.sheet.specs.Steps.{value_end}
 use Rattle.sheet.specs.Walks.{key_before, Standing, reached}
-use Rattle.sheet.specs.declared.walk.Before.TheVariants.{Nothing, At}
+use Rattle.sheet.specs.declared.walk.Before.TheVariants.{At}
 use Rattle.sheet.specs.declared.walk.Walk.{Walk}
 use Rattle.sheet.specs.declared.walk.Reached.{Reached}
 use Rattle.sheet.specs.declared.walk.Reached.TheVariants as step

@@ -1,6 +1,6 @@
 -- What the rescue hands back and what it leaves in the two buffers (document 02 (m)): 4 first; 8 if either output is too short, and then
 -- neither is touched. Assumes nothing.
-use Rattle.std.specs.Prelude.{ℕ, Bool, true, false, ◌&&◌, List, [], ◌++◌, length, drop, leb, ltb}
+use Rattle.std.specs.Prelude.{ℕ, ◌&&◌, List, [], ◌++◌, length, drop, leb, ltb}
 use Rattle.runs.specs.Runs.{pick}
 use Rattle.refusals.specs.Refusals.{numbers_of}
 use Rattle.refusals.specs.declared.Refusal.TheVariants.{SheetTooLong, OutputTooShort}

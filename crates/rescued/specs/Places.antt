@@ -1,10 +1,10 @@
 -- The walk over the stretches by places. Assumes nothing.
-use Rattle.std.specs.Prelude.{ℕ, ◌+◌, ◌≤◌, ◌<◌, min, ◌≡◌, List, [], ◌∷◌, length, drop}
+use Rattle.std.specs.Prelude.{ℕ, ◌+◌, ◌≤◌, ◌<◌, min, ◌≡◌, List, ◌∷◌, length, drop}
 use Rattle.runs.specs.Bytes.{index_of}
 use Rattle.sheet.specs.Walks.{key_before, Standing, starts_ahead}
 use Rattle.sheet.specs.declared.walk.Walk.{Walk}
 use Rattle.rescued.specs.declared.walk.Reach.{Reach}
-use Rattle.rescued.specs.Stretches.{Stretch, fate_at, last_after, stretches_from}
+use Rattle.rescued.specs.Stretches.{Stretch, stretches_from}
 
 -- where the stretch that begins at `at` ends: behind its 0A, or with the input
 abbrev pub line_end : List ℕ → ℕ → ℕ

@@ -1,7 +1,6 @@
 -- Laws of `slice` and `index_of`: one look at a byte. Assumes nothing.
-use Rattle.std.proofs.Common.{◌≡◌, ℕ, ◌+◌, ◌<◌, ◌≤◌, List, ◌∷◌, length, take, drop, get_or, refl, sym, ap, ◌∙◌, arith, add-one, length-take, get_or-take, drop-cons, drop_of_length-le, add-zero}
+use Rattle.std.proofs.Common.{◌≡◌, ℕ, ◌+◌, ◌<◌, ◌≤◌, List, ◌∷◌, length, take, get_or, ap, ◌∙◌, arith, add-one, length-take, get_or-take, drop-cons, drop_of_length-le, add-zero}
 use Rattle.runs.specs.Bytes.{slice, index_of, index_after}
-use Rattle.std.proofs.Math.Dec.{eqb}
 use borrow.Author.Tests.{eq-eqb, ne_eqb}
 
 module _ (s : List ℕ) (to i : ℕ) (h : i < to) (l : to ≤ length s) where

@@ -1,16 +1,15 @@
 -- What the head of a form tells. The proof of the reader's step cites these. Assumes nothing.
 use Prim.Native.Nat.{ℕ, ◌≤◌}
 use native.Mathlib.Omega.{arith}
-use mathlib.Core.Path.{◌≡◌, refl, sym, ap, subst, ◌∙◌}
-use mathlib.Core.Bool.{Bool, true, false, ◌&&◌, ◌||◌}
-use mathlib.Core.List.{List, [], ◌∷◌, ◌++◌}
+use mathlib.Core.Path.{◌≡◌, refl, sym, ap, subst}
+use mathlib.Core.Bool.{Bool, true, false}
+use mathlib.Core.List.{List, ◌++◌}
 use lib.ListN.{length, drop, get_or}
 use lib.Dec.{eqb}
 use borrow.Author.Tests.{eqb-true}
-use Rattle.runs.specs.Runs.{pick, begins_with, ends_in}
+use Rattle.runs.specs.Runs.{pick, begins_with}
 use Rattle.runs.proofs.Begins.{begins-front}
-use Rattle.sheet.specs.Forms.{Entry, entry_of, is_form, is_meant, is_kind, is_name, sign_i, letter_i, syllable_nu}
-use Rattle.sheet.specs.Letters.{is_letters}
+use Rattle.sheet.specs.Forms.{Entry, entry_of, is_form, is_meant}
 use Rattle.sheet.specs.Steps.{head_with, head_of}
 use Rattle.sheet.proofs.Shape.{no-head, unmeant}
 

@@ -1,11 +1,11 @@
 -- From a form to the line after it, and what a step of the reader tells. The walk over the lines cites these. Assumes nothing.
-use Prim.Native.Nat.{ℕ, zero, suc, ◌+◌, ◌-◌, ◌<◌, ◌≤◌}
+use Prim.Native.Nat.{ℕ, suc, ◌+◌, ◌<◌, ◌≤◌}
 use native.Mathlib.Omega.{arith}
 use native.Mathlib.Nat.{add-zero, add-suc, suc-add}
 use mathlib.Core.Path.{◌≡◌, refl, sym, ap, subst, ◌∙◌}
 use mathlib.Core.Bool.{Bool, true, false}
 use mathlib.Core.List.{List, [], ◌∷◌, ◌++◌, append_assoc}
-use lib.ListN.{length, take, drop, get_or, drop_of_length-le}
+use lib.ListN.{length, drop, get_or, drop_of_length-le}
 use lib.Seq.{drop-cons, drop-drop}
 use lib.Dec.{eqb, leb}
 use borrow.Author.Tests.{ne_eqb, leb-true, leb-false}
@@ -16,7 +16,6 @@ use Rattle.sheet.specs.Lines.{starts_from, line_at}
 use Rattle.sheet.specs.Steps.{name_end, value_end, step_at}
 use Rattle.sheet.specs.declared.line.Line.{Line}
 use Rattle.sheet.specs.declared.line.Line.TheVariants.{Form, NoForm, End}
-use Rattle.sheet.specs.declared.line.Cursor.{Cursor}
 use Rattle.sheet.proofs.Forms.{written-length, form-named, form_meant, name-plain, value-plain, line-bytes}
 
 -- a byte that may stand in a name ends no line

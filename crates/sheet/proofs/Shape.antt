@@ -1,20 +1,18 @@
 -- When a form stands at a place: its head, the bytes between name and value, and its close. The proofs of the reader's step and of
 -- the sheet's check cite these. Assumes nothing.
-use Prim.Native.Nat.{ℕ, zero, suc, ◌+◌, ◌-◌, ◌<◌, ◌≤◌}
+use Prim.Native.Nat.{ℕ, zero, suc, ◌+◌, ◌-◌, ◌≤◌}
 use native.Mathlib.Omega.{arith}
-use mathlib.Core.Path.{◌≡◌, refl, sym, ap, subst, ◌∙◌}
-use mathlib.Core.Bool.{Bool, true, false, ◌&&◌, and-true, and-false}
+use mathlib.Core.Path.{◌≡◌, refl, ap, subst, ◌∙◌}
+use mathlib.Core.Bool.{Bool, true, false, ◌&&◌, and-false}
 use mathlib.Core.List.{List, [], ◌∷◌, ◌++◌}
 use lib.ListN.{length, take, drop, get_or, length-drop, length-append}
-use lib.Seq.{drop-drop, take_all}
-use lib.Dec.{eqb}
-use borrow.Author.Tests.{eq-eqb, eqb-true}
-use Rattle.runs.specs.Runs.{pick, begins_with}
+use lib.Seq.{take_all}
+use borrow.Author.Tests.{eq-eqb}
+use Rattle.runs.specs.Runs.{begins_with}
 use Rattle.runs.proofs.Begins.{begins-append, begins-front}
 use Rattle.text.specs.Names.{name_run}
-use Rattle.sheet.specs.Forms.{Entry, front, entry_of, written, is_name, is_meant, is_form}
-use Rattle.sheet.specs.Lines.{line_at}
-use Rattle.sheet.specs.Steps.{head_with, head_of, name_end, value_end}
+use Rattle.sheet.specs.Forms.{front, entry_of, written, is_name, is_meant, is_form}
+use Rattle.sheet.specs.Steps.{head_with}
 use Rattle.sheet.proofs.Fronts.{front_length}
 
 -- what stands between the first name and the value, and after the value

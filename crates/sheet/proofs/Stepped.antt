@@ -2,18 +2,17 @@
 -- Assumes nothing.
 use Prim.Native.Nat.{ℕ, ◌+◌, ◌-◌, ◌<◌, ◌≤◌}
 use native.Mathlib.Omega.{arith}
-use mathlib.Core.Path.{◌≡◌, refl, sym, ap, subst, ◌∙◌}
-use mathlib.Core.Bool.{Bool, true, false}
-use mathlib.Core.List.{List, [], ◌∷◌}
-use lib.ListN.{length, take, drop, get_or}
+use mathlib.Core.Path.{◌≡◌, sym, ap, ◌∙◌}
+use mathlib.Core.Bool.{true, false}
+use mathlib.Core.List.{List}
+use lib.ListN.{length, take, drop}
 use lib.Seq.{drop-drop}
 use borrow.Author.Tests.{le-leb, lt-leb}
-use Rattle.runs.specs.Runs.{pick, begins_with}
+use Rattle.runs.specs.Runs.{begins_with}
 use Rattle.text.specs.Names.{name_run}
-use Rattle.sheet.specs.Forms.{Entry, front, entry_of, is_form, is_name, is_meant}
+use Rattle.sheet.specs.Forms.{Entry, front, entry_of, is_form, is_name}
 use Rattle.sheet.specs.Lines.{line_at}
-use Rattle.sheet.specs.Steps.{head_with, head_of, name_end, value_end, step_at}
-use Rattle.sheet.specs.declared.line.Line.{Line}
+use Rattle.sheet.specs.Steps.{head_with, name_end, value_end, step_at}
 use Rattle.sheet.specs.declared.line.Line.TheVariants.{Form, NoForm, End}
 use Rattle.sheet.proofs.Fronts.{front_length}
 use Rattle.sheet.proofs.Heads.{letter_is}

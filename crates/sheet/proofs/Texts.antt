@@ -3,7 +3,7 @@
 use Prim.Native.Nat.{ℕ, zero, suc, ◌+◌, ◌<◌, ◌≤◌}
 use native.Mathlib.Omega.{arith}
 use native.Mathlib.Nat.{add-zero}
-use mathlib.Core.Path.{◌≡◌, refl, sym, ap, subst, ◌∙◌}
+use mathlib.Core.Path.{◌≡◌, refl, sym, ap, ◌∙◌}
 use mathlib.Core.Bool.{Bool, true, false, ◌&&◌}
 use mathlib.Core.List.{List, [], ◌∷◌, ◌++◌, map}
 use lib.ListN.{length, take, drop, get_or, length-append, drop_of_length-le}
@@ -11,7 +11,6 @@ use lib.Seq.{drop-drop, drop-append_seam, take-append_seam}
 use lib.Dec.{ltb, eqb}
 use borrow.Author.Tests.{ltb-true, ltb-false, eq-eqb}
 use Rattle.runs.specs.Runs.{pick, cmp, is_less, begins_with}
-use Rattle.runs.specs.declared.Order.{Order}
 use Rattle.runs.specs.declared.Order.TheVariants.{Less}
 use Rattle.text.specs.Names.{forbidden, name_run, holds_forbidden}
 use Rattle.sheet.specs.Limits.{sheet_limit}

@@ -2,7 +2,7 @@
 --     (LETTER NAME (VALUE))     and byte 0A,
 -- so that a line is an entry of three parts: its first letter, its first name, and what stands in the inner parentheses.
 -- Assumes nothing.
-use Rattle.std.specs.Prelude.{ℕ, Bool, true, false, not, ◌&&◌, ◌||◌, List, [], ◌∷◌, ◌++◌, length, take, drop, get_or, eqb, leb, ltb}
+use Rattle.std.specs.Prelude.{ℕ, Bool, false, not, ◌&&◌, ◌||◌, List, [], ◌∷◌, ◌++◌, length, take, drop, get_or, eqb, leb, ltb}
 use Rattle.runs.specs.Runs.{pick, same_text, begins_with, ends_in}
 use Rattle.text.specs.Utf8.{is_utf8}
 use Rattle.text.specs.Names.{name_run, holds_forbidden}

@@ -1,6 +1,6 @@
 -- What is said of a word and a sheet together (document 01, "What an entry hands back"): accepted, or refused by the lowest number that
 -- applies. Assumes nothing.
-use Rattle.std.specs.Prelude.{ℕ, Bool, true, false, not, List, [], ◌∷◌, ◌++◌, length, ltb}
+use Rattle.std.specs.Prelude.{ℕ, not, List, [], ◌∷◌, ◌++◌, length, ltb}
 use Rattle.refusals.specs.Refusals.{places, numbers_of, Before, cause_if, lowest_numbers_of}
 use Rattle.refusals.specs.declared.Refusal.{Refusal}
 use Rattle.refusals.specs.declared.Refusal.TheVariants.{WordTooLong, WordNotUtf8, WordForbidden, SheetTooLong, SheetNoForm, SheetNotAbove}

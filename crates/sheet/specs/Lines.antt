@@ -1,6 +1,6 @@
 -- A sheet's lines and what is said of the sheet (document 01, "The sheet" and the table of refusals): numbers 4, 5 and 6.
 -- Assumes nothing.
-use Rattle.std.specs.Prelude.{ℕ, zero, suc, Bool, true, false, not, ◌≡◌, List, [], ◌∷◌, ◌++◌, map, length, drop, eqb, ltb}
+use Rattle.std.specs.Prelude.{ℕ, suc, Bool, true, false, List, [], ◌∷◌, ◌++◌, map, length, drop, eqb, ltb}
 use Rattle.runs.specs.Runs.{pick, cmp, is_less}
 use Rattle.sheet.specs.Limits.{sheet_limit}
 use Rattle.sheet.specs.Forms.{Entry, entry_of, written, is_form, key}

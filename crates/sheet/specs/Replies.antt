@@ -1,6 +1,6 @@
 -- What a sheet replies to a question (document 01, "The sheet"): each by exact bytes, and a string without a line is unknown.
 -- Assumes nothing.
-use Rattle.std.specs.Prelude.{ℕ, ◌≡◌, Bool, true, false, List, [], ◌∷◌, length}
+use Rattle.std.specs.Prelude.{ℕ, ◌≡◌, List, [], ◌∷◌}
 use Rattle.runs.specs.Runs.{pick, same_text}
 use Rattle.sheet.specs.Letters.{letters_of, no_letters}
 use Rattle.sheet.specs.Forms.{Entry, key, key_of}

@@ -1,7 +1,7 @@
 -- The reader's step from line to line (document 01, "The sheet"): what stands at a place. Assumes nothing.
-use Rattle.std.specs.Prelude.{ℕ, ◌+◌, Bool, true, false, List, [], ◌∷◌, length, drop, leb}
+use Rattle.std.specs.Prelude.{ℕ, ◌+◌, List, [], ◌∷◌, length, drop, leb}
 use Rattle.runs.specs.Runs.{pick, begins_with}
-use Rattle.sheet.specs.Forms.{Entry, is_form}
+use Rattle.sheet.specs.Forms.{is_form}
 use Rattle.sheet.specs.Lines.{line_at}
 use Rattle.sheet.specs.declared.line.Line.{Line}
 use Rattle.sheet.specs.declared.line.Line.TheVariants.{Form, NoForm, End}

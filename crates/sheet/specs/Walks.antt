@@ -1,5 +1,5 @@
 -- The walk over a sheet's lines: what a step reaches at a place, after a last line. Assumes nothing.
-use Rattle.std.specs.Prelude.{ℕ, ◌+◌, ◌≡◌, Bool, true, false, List, [], ◌∷◌, length, drop, leb}
+use Rattle.std.specs.Prelude.{ℕ, ◌+◌, ◌≡◌, true, List, [], length, drop, leb}
 use Rattle.runs.specs.Runs.{pick, cmp, is_less}
 use Rattle.sheet.specs.Forms.{is_form, key}
 use Rattle.sheet.specs.Lines.{line_at, starts_from}

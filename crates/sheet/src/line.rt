@@ -7,8 +7,7 @@ ghost use Rattle.sheet.specs.Steps.{head_of, name_end, value_end, step_at};
 
 use crate::letters::are_letters;
 use crate::name::{is_name, read_name, run_end};
-use runs::find;
-use runs::{begins_with, ends_with, same};
+use runs::{begins_with, ends_with, find, same};
 
 // The first letter of the form whose head stands at the front of t, 0 where none does.
 fn head_at(t: &[u8]) -> u8

@@ -1,6 +1,6 @@
 -- The test `is_utf8` passes exactly for the sequences of RFC 3629's grammar, and `chars` counts their characters. The rows of the
 -- grammar begin in ranges that lie apart, so a first byte chooses one row; this is one computed test over all rows. Assumes nothing.
-use Prim.Native.Nat.{ℕ, zero, suc, ◌+◌, ◌≤◌, ◌<◌}
+use Prim.Native.Nat.{ℕ, zero, suc, ◌+◌, ◌≤◌}
 use native.Mathlib.Omega.{arith}
 use native.Mathlib.Nat.{zero-add}
 use mathlib.Core.Path.{◌≡◌, refl, sym, ap, subst, ◌∙◌}
@@ -10,7 +10,7 @@ use mathlib.Core.List.Memᴰ
 use mathlib.Core.List.{List, [], ◌∷◌, ◌++◌, Memᴰ}
 use lib.ListN.{length, length-append}
 use lib.Dec.{leb, ltb}
-use borrow.Author.Tests.{leb-true, ltb-true, lt-leb, le-leb}
+use borrow.Author.Tests.{leb-true, ltb-true}
 use Rattle.runs.specs.Runs.{pick}
 use Rattle.runs.proofs.Begins.{and_left, and_right}
 use Rattle.text.specs.Utf8.{Range, within, tail, utf8_char, FitsRow, Octets, none, more, Owed, owes, misfit, opened, after, run, whole, is_utf8}

@@ -2,14 +2,14 @@
 -- Assumes nothing.
 use Prim.Native.Nat.{ℕ, ◌+◌, ◌<◌, ◌≤◌}
 use native.Mathlib.Numerals.{add-one}
-use mathlib.Core.Path.{◌≡◌, refl}
-use mathlib.Core.Bool.{Bool, true, false}
+use mathlib.Core.Path.{◌≡◌}
+use mathlib.Core.Bool.{true, false}
 use mathlib.Core.List.{List}
 use lib.ListN.{length, get_or, drop, drop_of_length-le}
 use lib.Seq.{drop-cons}
 use Rattle.text.specs.Utf8.{Owed, after, run}
 use Rattle.text.specs.Characters.{opens, chars}
-use Rattle.text.specs.Names.{forbidden, name_run, holds_forbidden}
+use Rattle.text.specs.Names.{forbidden, holds_forbidden}
 
 module _ (s : List ℕ) (i : ℕ) (h : i < length s) where
   pub run_next : (o o' : Owed) → o' ≡ after o (get_or s i 0) → run o (drop i s) ≡ run o' (drop (i + 1) s)

@@ -1,5 +1,5 @@
 -- Characters of UTF-8 text: one Unicode scalar value each, as Rust's `chars` counts. Assumes nothing.
-use Rattle.std.specs.Prelude.{ℕ, zero, suc, ◌+◌, List, [], ◌∷◌}
+use Rattle.std.specs.Prelude.{ℕ, ◌+◌, List, [], ◌∷◌}
 use Rattle.runs.specs.Runs.{pick}
 use Rattle.text.specs.Utf8.{tail, within}
 

@@ -1,6 +1,6 @@
 -- What each state of the code's reader owes. Assumes nothing.
-use Rattle.std.specs.Prelude.{List, [], ◌∷◌}
-use Rattle.text.specs.Utf8.{Range, from_to, tail, Owed, owes, misfit}
+use Rattle.std.specs.Prelude.{[], ◌∷◌}
+use Rattle.text.specs.Utf8.{from_to, tail, Owed, owes, misfit}
 use Rattle.text.specs.declared.utf8.State.{State}
 use Rattle.text.specs.declared.utf8.State.TheVariants.{Nothing, One, Two, Three, TwoFromA0, TwoTo9F, ThreeFrom90, ThreeTo8F, Misfit}
 

@@ -1,5 +1,5 @@
 -- Accepting a word (document 01, the table of refusals): numbers 1, 2 and 3, the lowest that applies. Assumes nothing.
-use Rattle.std.specs.Prelude.{ℕ, Bool, true, false, not, List, length, ltb}
+use Rattle.std.specs.Prelude.{ℕ, not, List, length, ltb}
 use Rattle.runs.specs.Runs.{pick}
 use Rattle.text.specs.Utf8.{is_utf8}
 use Rattle.text.specs.Names.{holds_forbidden}

@@ -1,21 +1,19 @@
 -- What each return of the entries says, and what the list holds: nothing of it is written where anything is refused, and where all fit the
 -- tokens stand in front of its old numbers. The proofs of `tokenize` and `tokenize_in` cite these. Assumes nothing.
-use Prim.Native.Nat.{ℕ, zero, suc, ◌+◌, ◌-◌, ◌*◌, ◌≤◌, ◌<◌}
+use Prim.Native.Nat.{ℕ, suc, ◌+◌, ◌*◌, ◌≤◌, ◌<◌}
 use native.Mathlib.Omega.{arith}
-use mathlib.Core.Path.{◌≡◌, refl, sym, ap, subst, ◌∙◌}
-use mathlib.Core.Bool.{Bool, true, false, not}
+use mathlib.Core.Path.{◌≡◌, refl, sym, ap, ◌∙◌}
+use mathlib.Core.Bool.{true, false}
 use mathlib.Core.List.{List, [], ◌∷◌, ◌++◌, append_assoc}
 use native.Mathlib.Numerals.{add-one}
 use lib.ListN.{length, take, drop, set, get_or, length-set, take-append-drop}
 use lib.Seq.{take-suc-set, drop-set-lt, paste, paste-suc, take_at}
-use lib.Dec.{ltb}
 use borrow.Author.Tests.{lt-ltb, le-ltb}
-use Rattle.runs.specs.Runs.{pick}
 use Rattle.text.specs.Utf8.{is_utf8}
 use Rattle.tokenizer.specs.Tokens.{Span}
 use Rattle.tokenizer.specs.Scanned.{tokens_of}
 use Rattle.tokenizer.specs.Answers.{text_limit, tokenized, pairs, listed}
-use Rattle.tokenizer.specs.Stored.{put, stored, passed}
+use Rattle.tokenizer.specs.Stored.{stored, passed}
 use Rattle.refusals.specs.Refusals.{output_by}
 use Rattle.refusals.specs.declared.Refusal.TheVariants.{TextTooLong, TextNotUtf8, ListTooShort}
 use Rattle.refusals.specs.declared.Written.{Written}

@@ -1,19 +1,19 @@
 -- The list of tokens, by characters: a run between parting characters or the text's ends that none parts and that holds one in the
 -- range is listed, and nothing else is. Assumes nothing.
-use Prim.Native.Nat.{ℕ, zero, suc, ◌+◌, ◌≤◌, ◌<◌}
-use native.Mathlib.Nat.{add-zero, add_assoc, zero-add}
+use Prim.Native.Nat.{ℕ, ◌+◌, ◌≤◌}
+use native.Mathlib.Nat.{zero-add}
 use native.Mathlib.Omega.{arith}
 use mathlib.Core.Path.{◌≡◌, refl, sym, ap, subst, ◌∙◌}
 use mathlib.Core.Logic.{◌⊎◌, inl, inr, ⊎_elim}
-use mathlib.Core.Bool.{Bool, true, false, ◌&&◌, ◌||◌}
+use mathlib.Core.Bool.{Bool, true, false, ◌||◌}
 use mathlib.Core.List.Memᴰ
-use mathlib.Core.List.{List, [], ◌∷◌, ◌++◌, append_assoc, append-nil, Memᴰ}
+use mathlib.Core.List.{List, [], ◌∷◌, ◌++◌, append_assoc, Memᴰ}
 use lib.ListN.{length, length-append}
 use Rattle.runs.specs.Runs.{pick}
 use Rattle.tokenizer.specs.Scalars.{Character, bytes, scalar}
 use Rattle.tokenizer.specs.Parting.{parts, devanagari}
 use Rattle.tokenizer.specs.Tokens.{Each, Span, span}
-use Rattle.tokenizer.specs.Scanned.{Chars, finished, broken, char, kept, scan}
+use Rattle.tokenizer.specs.Scanned.{kept, scan}
 use Rattle.tokenizer.proofs.Parsed.{told, no, has-bytes}
 
 -- how many bytes characters have

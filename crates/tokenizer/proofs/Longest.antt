@@ -1,17 +1,17 @@
 -- A token is a run between edges, and the other way round: a longest run cannot go on past a character that does not part, and no run
 -- reaches over one that does. Assumes nothing.
-use Prim.Native.Nat.{ℕ, zero, suc, ◌+◌, ◌-◌, ◌≤◌, ◌<◌}
+use Prim.Native.Nat.{ℕ, ◌+◌, ◌≤◌}
 use native.Mathlib.Omega.{arith}
 use mathlib.Core.Path.{◌≡◌, refl, sym, ap, subst, ◌∙◌}
 use mathlib.Core.Logic.{◌⊎◌, inl, inr, ⊎_elim}
 use mathlib.Core.Bool.{Bool, true, false}
-use mathlib.Core.List.{List, [], ◌∷◌, ◌++◌, append_assoc, append-nil, Memᴰ}
-use lib.ListN.{length, length-append}
+use mathlib.Core.List.{List, [], ◌∷◌, ◌++◌, append_assoc, append-nil}
+use lib.ListN.{length}
 use Rattle.tokenizer.specs.Scalars.{Character, bytes, scalar}
-use Rattle.tokenizer.specs.Parting.{parts, devanagari}
+use Rattle.tokenizer.specs.Parting.{parts}
 use Rattle.tokenizer.specs.Tokens.{Each, Run, Token}
 use Rattle.tokenizer.proofs.Parsed.{no, has-bytes, one_way}
-use Rattle.tokenizer.proofs.Edges.{total, bytes-append, total-append, total-cons, total_nil, each_append, each_left, each_right, each_mem, Plain, LeftEdge, RightEdge, Holds, Edged}
+use Rattle.tokenizer.proofs.Edges.{total, bytes-append, total-append, total-cons, total_nil, each_append, each_left, each_right, Plain, LeftEdge, RightEdge, Edged}
 
 heads : {x y : List ℕ} {xs ys : List (List ℕ)} → ◌≡◌ {A = List (List ℕ)} (x ∷ xs) (y ∷ ys) → (x ≡ y) × (xs ≡ ys)
 heads e = (cc, cc)

@@ -1,20 +1,20 @@
 -- The character at the front of a text, read byte by byte; its number; and the short ways of `look`. The proofs of seen.rt cite these.
 -- Assumes nothing.
-use Prim.Native.Nat.{ℕ, zero, suc, ◌+◌, ◌-◌, ◌*◌, ◌≤◌, ◌<◌}
+use Prim.Native.Nat.{ℕ, suc, ◌+◌, ◌-◌, ◌*◌, ◌≤◌, ◌<◌}
 use native.Mathlib.Nat.{add-zero}
 use native.Mathlib.Numerals.{add-one}
 use native.Mathlib.Omega.{arith}
 use borrow.Author.Tests.{eqb-true, eqb-false}
-use mathlib.Core.Path.{◌≡◌, refl, sym, ap, subst, ◌∙◌}
-use mathlib.Core.Logic.{◌⊎◌, inl, inr, ⊎_elim}
-use mathlib.Core.Bool.{Bool, true, false, ◌&&◌, ◌||◌}
+use mathlib.Core.Path.{◌≡◌, refl, sym, ap, ◌∙◌}
+use mathlib.Core.Logic.{⊎_elim}
+use mathlib.Core.Bool.{Bool, true, false, ◌&&◌}
 use mathlib.Core.List.{List, [], ◌∷◌}
 use lib.ListN.{length, take, drop, get_or, length-take, length-drop, drop_of_length-le}
 use lib.Seq.{drop-cons}
-use lib.Dec.{leb, eqb}
+use lib.Dec.{eqb}
 use Rattle.runs.specs.Runs.{pick}
-use Rattle.text.specs.Utf8.{Range, from_to, within, tail, utf8_char, Owed, owes, misfit, opened, after, whole}
-use Rattle.text.proofs.Ranges.{inside, below, above}
+use Rattle.text.specs.Utf8.{from_to, within, tail, utf8_char, Owed, owes, misfit, opened, after, whole}
+use Rattle.text.proofs.Ranges.{inside, below}
 use Rattle.tokenizer.specs.Scalars.{scalar}
 use Rattle.tokenizer.specs.Parting.{parts, among, white_space, punctuation, devanagari}
 use Rattle.tokenizer.specs.Scanned.{fits, width_by, width}

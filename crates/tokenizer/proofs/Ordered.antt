@@ -1,6 +1,6 @@
 -- The tokens of a text stand in its order, three bytes or more each and one at least between two: so they do not overlap, and there are
 -- few. A list that does so is settled by its members. Assumes nothing.
-use Prim.Native.Nat.{ℕ, zero, suc, ◌+◌, ◌*◌, ◌≤◌, ◌<◌}
+use Prim.Native.Nat.{ℕ, ◌+◌, ◌*◌, ◌≤◌, ◌<◌}
 use native.Mathlib.Omega.{arith}
 use mathlib.Core.Path.{◌≡◌, refl, sym, ap, subst, ◌∙◌}
 use mathlib.Core.Logic.{◌⊎◌, inl, inr, ⊎_elim}
@@ -11,8 +11,8 @@ use lib.ListN.{length}
 use Rattle.runs.specs.Runs.{pick}
 use Rattle.tokenizer.specs.Scalars.{Character, scalar}
 use Rattle.tokenizer.specs.Parting.{parts, devanagari}
-use Rattle.tokenizer.specs.Tokens.{Each, Span, span, InOrder}
-use Rattle.tokenizer.specs.Scanned.{finished, char, kept, scan}
+use Rattle.tokenizer.specs.Tokens.{Each, Span, InOrder}
+use Rattle.tokenizer.specs.Scanned.{kept, scan}
 use Rattle.tokenizer.proofs.Parsed.{told, no, has-bytes, three}
 use Rattle.tokenizer.proofs.Edges.{total, total-cons, total_nil}
 

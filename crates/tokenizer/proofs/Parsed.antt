@@ -1,24 +1,23 @@
 -- A UTF-8 text is its characters, in one way only, and the pass reads these. Assumes nothing.
-use Prim.Native.Nat.{ℕ, zero, suc, ◌+◌, ◌-◌, ◌*◌, ◌≤◌, ◌<◌}
+use Prim.Native.Nat.{ℕ, suc, ◌+◌, ◌-◌, ◌*◌, ◌≤◌}
 use native.Mathlib.Omega.{arith}
 use mathlib.Core.Path.{◌≡◌, refl, sym, ap, subst, ◌∙◌}
-use mathlib.Core.Logic.{◌⊎◌, inl, inr, ⊎_elim}
-use mathlib.Core.Bool.{Bool, true, false, ◌&&◌, ◌||◌}
+use mathlib.Core.Logic.{⊎_elim}
+use mathlib.Core.Bool.{Bool, true, false, ◌&&◌}
 use mathlib.Core.List.Memᴰ
-use mathlib.Core.List.{List, [], ◌∷◌, ◌++◌, append_assoc, Memᴰ}
+use mathlib.Core.List.{List, [], ◌∷◌, ◌++◌, Memᴰ}
 use lib.ListN.{length, take, drop, length-append}
 use lib.Seq.{take-append_seam, drop-append_seam}
 use lib.Dec.{leb}
 use borrow.Author.Tests.{leb-true}
-use Rattle.runs.specs.Runs.{pick}
 use Rattle.runs.proofs.Begins.{and_left, and_right}
-use Rattle.text.specs.Utf8.{Range, from_to, within, utf8_char, FitsRow, Octets, none, more, Owed, owes, misfit, opened, is_utf8}
+use Rattle.text.specs.Utf8.{Range, from_to, within, utf8_char, FitsRow, Octets, none, more, is_utf8}
 use Rattle.text.proofs.Grammar.{chooses, no_empty_row, sound}
 use Rattle.text.proofs.Ranges.{below}
 use Rattle.tokenizer.specs.Scalars.{Character, bytes, scalar}
 use Rattle.tokenizer.specs.Parting.{parts, devanagari}
 use Rattle.tokenizer.specs.Tokens.{Each}
-use Rattle.tokenizer.specs.Scanned.{fits, width_by, width, Chars, finished, broken, char, chars_from}
+use Rattle.tokenizer.specs.Scanned.{fits, width, Chars, finished, char, chars_from}
 use Rattle.tokenizer.proofs.Turns.{chars-one}
 
 -- a contradiction of two truths

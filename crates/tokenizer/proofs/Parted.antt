@@ -7,13 +7,13 @@ use mathlib.Core.Path.{◌≡◌, refl, sym, ap, subst, ◌∙◌}
 use mathlib.Core.Logic.{◌⊎◌, inl, inr, ⊎_elim}
 use mathlib.Core.Bool.{Bool, true, false, ◌&&◌, ◌||◌}
 use mathlib.Core.List.{List, [], ◌∷◌}
-use lib.Dec.{leb, ltb, eqb}
+use lib.Dec.{ltb, eqb}
 use lib.Bits.{bit_and}
 use borrow.Author.Tests.{ltb-true, ltb-false, eqb-true, eqb-false}
 use Rattle.runs.proofs.Begins.{and_left, and_right}
-use Rattle.text.specs.Utf8.{Range, from_to, within}
-use Rattle.text.proofs.Ranges.{inside, below, above}
-use Rattle.tokenizer.specs.Parting.{among, white_space, punctuation, parts, devanagari}
+use Rattle.text.specs.Utf8.{Range, within}
+use Rattle.text.proofs.Ranges.{below, above}
+use Rattle.tokenizer.specs.Parting.{among, white_space, punctuation, parts}
 
 pub below_or_not : (a b : ℕ) → (a < b) ⊎ (b ≤ a)
 below_or_not a b = by (ltb a b) refl

@@ -4,7 +4,7 @@
 use Prim.Native.Nat.{ℕ, zero, suc, ◌+◌, ◌*◌, ◌≤◌, ◌<◌}
 use native.Mathlib.Omega.{arith}
 use mathlib.Core.Path.{◌≡◌, refl, sym, ap, subst, ◌∙◌}
-use mathlib.Core.Logic.{◌⊎◌, inl, inr, ⊎_elim, ◌↔◌}
+use mathlib.Core.Logic.{◌⊎◌, inl, inr, ◌↔◌}
 use mathlib.Core.Bool.{Bool, true, false, not}
 use mathlib.Core.List.Memᴰ
 use mathlib.Core.List.{List, [], ◌∷◌, ◌++◌, Memᴰ}
@@ -14,14 +14,12 @@ use borrow.Author.Tests.{ltb-true, ltb-false, le-ltb}
 use Rattle.runs.specs.Runs.{pick}
 use Rattle.text.specs.Utf8.{is_utf8}
 use Rattle.tokenizer.specs.Scalars.{Character, bytes}
-use Rattle.tokenizer.specs.Tokens.{Each, Run, Token, Span, span, InOrder}
+use Rattle.tokenizer.specs.Tokens.{Each, Token, Span, span, InOrder}
 use Rattle.tokenizer.specs.Scanned.{chars_from, scan, tokens_of}
 use Rattle.tokenizer.specs.Answers.{text_limit, tokenized, pairs, listed}
-use Rattle.tokenizer.specs.Stored.{stored, passed}
-use Rattle.refusals.specs.Refusals.{output_by}
+use Rattle.tokenizer.specs.Stored.{passed}
 use Rattle.refusals.specs.declared.Refusal.{Refusal}
 use Rattle.refusals.specs.declared.Refusal.TheVariants.{TextTooLong, TextNotUtf8, ListTooShort}
-use Rattle.refusals.specs.declared.Written.{Written}
 use Rattle.refusals.specs.declared.Written.TheVariants.{Wrote, Refused}
 use Rattle.tokenizer.proofs.Parsed.{read_all, told, told_all, one_way}
 use Rattle.tokenizer.proofs.Edges.{total, has-total, Edged, sound_edges, complete_edges}

@@ -1,7 +1,7 @@
 -- The worked cases, proved together: for every case of the list the number, the count and the list's later contents are those that stand beside it.
 -- Assumes nothing.
 use mathlib.Core.Path.{◌≡◌, refl}
-use mathlib.Core.List.{List, map}
+use mathlib.Core.List.{map}
 use lib.ListN.{length}
 use Rattle.text.specs.Utf8.{within, utf8_char, opened, after, run, is_utf8}
 use Rattle.tokenizer.specs.Scalars.{scalar}

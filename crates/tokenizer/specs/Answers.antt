@@ -1,6 +1,6 @@
 -- What the entries give (document 02 (a)): 9, text over 65,536 bytes, first; then 2, not UTF-8; 10, list too short, last; else how many
 -- tokens there are; and what the lent list holds then. Assumes nothing.
-use Rattle.std.specs.Prelude.{ℕ, ◌*◌, Bool, true, false, not, List, [], ◌∷◌, length, ltb}
+use Rattle.std.specs.Prelude.{ℕ, ◌*◌, not, List, [], ◌∷◌, length, ltb}
 use Rattle.runs.specs.Runs.{pick}
 use Rattle.refusals.specs.Refusals.{output_by}
 use Rattle.refusals.specs.declared.Refusal.TheVariants.{TextTooLong, TextNotUtf8, ListTooShort}

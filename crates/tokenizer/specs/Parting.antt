@@ -1,6 +1,6 @@
 -- Which characters part words (document 02 (a)): those of the source's punctuation list and those with Unicode's property White_Space;
 -- and which make a run a word's: U+0900 to U+097F. Assumes nothing.
-use Rattle.std.specs.Prelude.{ℕ, Bool, true, false, ◌||◌, List, [], ◌∷◌}
+use Rattle.std.specs.Prelude.{ℕ, Bool, false, ◌||◌, List, [], ◌∷◌}
 use Rattle.text.specs.Utf8.{Range, from_to, within}
 
 abbrev pub one : ℕ → Range

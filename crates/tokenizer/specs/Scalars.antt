@@ -1,9 +1,8 @@
 -- Characters and their numbers, by RFC 3629: what is one character (section 4), and which number it stands for (section 3). Assumes
 -- nothing.
-use Rattle.std.specs.Prelude.{ℕ, suc, ◌+◌, ◌-◌, ◌*◌, ◌≡◌, Bool, true, false, ◌&&◌, length}
+use Rattle.std.specs.Prelude.{ℕ, ◌+◌, ◌-◌, ◌*◌}
 use mathlib.Core.List.{List, [], ◌∷◌, ◌++◌, Memᴰ}
-use Rattle.runs.specs.Runs.{pick}
-use Rattle.text.specs.Utf8.{Range, within, utf8_char, FitsRow, Owed, owes, misfit, opened}
+use Rattle.text.specs.Utf8.{Range, utf8_char, FitsRow}
 
 -- c is one character: its bytes fit a row of the grammar
 abbrev pub Character : List ℕ → Type 0

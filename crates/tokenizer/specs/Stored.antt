@@ -1,6 +1,6 @@
 -- What a list of numbers holds after tokens were written to it one by one, as many as there is room for: what the pass over a text
 -- leaves, for every text and every list. Assumes nothing.
-use Rattle.std.specs.Prelude.{ℕ, ◌+◌, ◌*◌, ◌≤◌, ◌≡◌, Bool, true, false, List, [], ◌∷◌, length, set, ltb}
+use Rattle.std.specs.Prelude.{ℕ, ◌+◌, ◌*◌, ◌≤◌, ◌≡◌, Bool, List, [], ◌∷◌, length, set, ltb}
 use Rattle.runs.specs.Runs.{pick}
 use Rattle.tokenizer.specs.Tokens.{Span}
 use Rattle.tokenizer.specs.Scanned.{kept, tokens_of}

@@ -1,6 +1,6 @@
 -- What a token of a text is (document 02 (a)), with no scan in sight: a longest run of whole characters none of which parts, with a
 -- character in U+0900 to U+097F. proofs/Promises.antt shows that `tokens_of` is the list of these. Assumes nothing.
-use Rattle.std.specs.Prelude.{ℕ, ◌+◌, ◌≤◌, ◌<◌, ◌≡◌, Bool, true, false, length}
+use Rattle.std.specs.Prelude.{ℕ, ◌+◌, ◌≤◌, ◌<◌, ◌≡◌, true, false, length}
 use mathlib.Core.List.{List, [], ◌∷◌, ◌++◌, Memᴰ}
 use Rattle.tokenizer.specs.Scalars.{Character, bytes, scalar}
 use Rattle.tokenizer.specs.Parting.{parts, devanagari}

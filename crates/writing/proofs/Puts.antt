@@ -1,12 +1,12 @@
 -- Texts put one after the other are one text put. Every proof of a function that puts something cites these. Assumes nothing.
-use Prim.Native.Nat.{ℕ, ◌+◌, ◌-◌, ◌≤◌, ◌<◌, min}
+use Prim.Native.Nat.{ℕ, ◌+◌, ◌-◌, ◌≤◌, ◌<◌}
 use native.Mathlib.Omega.{arith}
 use native.Mathlib.Nat.{add-zero}
 use mathlib.Core.Path.{◌≡◌, refl, sym, ap, subst, ◌∙◌}
 use mathlib.Core.List.{List, [], ◌++◌, append_assoc, append-nil}
 use lib.ListN.{length, take, drop, length-append, length-drop, take-append-drop}
-use lib.Seq.{length-take-le, take_at, drop-append-add, drop-drop, take-length, drop-length}
-use borrow.Rule.Slice.PartMut.{mid_of, put_mid, mid_len, Post-is}
+use lib.Seq.{length-take-le, take_at, drop-append-add, drop-drop}
+use borrow.Rule.Slice.PartMut.{put_mid, Post-is}
 use borrow.Author.Tests.{le-leb, lt-leb}
 use Rattle.writing.specs.Placed.{largest, placed, Wrote, Answer}
 use Rattle.refusals.specs.declared.Refusal.TheVariants.{OutputTooShort}

@@ -4,12 +4,12 @@ use native.Mathlib.Omega.{arith}
 use native.Mathlib.Nat.{suc-mul}
 use mathlib.Core.Path.{◌≡◌, refl, ap, ◌∙◌}
 use mathlib.Core.Bool.{Bool, true, false}
-use mathlib.Core.List.{List, [], ◌∷◌, ◌++◌, map}
+use mathlib.Core.List.{List, [], ◌∷◌, map}
 use lib.ListN.{length, length-append}
 use lib.Dec.{ltb}
 use borrow.Author.Tests.{ltb-true, ltb-false}
 use Rattle.writing.specs.Decimal.{digit, decimal}
-use Rattle.writing.specs.Refused.{gap, parted_from, refused_text}
+use Rattle.writing.specs.Refused.{gap, parted_from}
 use Rattle.writing.proofs.Digits.{one-digit, more_digits}
 
 gap-size : (i : ℕ) → length (gap i) ≤ 1

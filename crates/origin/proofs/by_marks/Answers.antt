@@ -1,7 +1,6 @@
 -- `by_marks` meets its contract, origin by origin. Assumes nothing.
 use mathlib.Core.Path.{sym, ap, ◌∙◌}
 use Rattle.origin.specs.Decisions.{by_marks}
-use borrow.Author.Rules.{rules}
 use Rattle.origin.proofs.by_marks.Goals as goal
 
 pub returns-in-Deshaj : goal.returns-in-Deshaj

@@ -3,7 +3,6 @@ use mathlib.Core.Path.{sym, ap, ◌∙◌}
 use Rattle.origin.specs.Marks.{heuristic_of}
 use Rattle.origin.specs.Decisions.{by_stem, or_by_kosha, by_marks}
 use Rattle.origin.specs.declared.kosha.Known.{Known}
-use borrow.Author.Rules.{rules}
 use Rattle.origin.proofs.by_stem.Goals as goal
 
 pub returns-in-Tagged : goal.returns-in-Tagged

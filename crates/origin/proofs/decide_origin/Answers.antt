@@ -2,7 +2,6 @@
 use mathlib.Core.Path.{sym, ◌∙◌}
 use Rattle.sheet.specs.Replies.{reply}
 use Rattle.origin.proofs.Decided.{by_none, by_table, by_own}
-use borrow.Author.Rules.{rules}
 use Rattle.origin.proofs.decide_origin.Goals as goal
 
 pub returns-then-word-eq0 : goal.returns-then-word-eq0

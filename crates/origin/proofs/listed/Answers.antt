@@ -1,7 +1,5 @@
 -- `origin::listed` meets its contract: the table does not have a word that its bytes rule out. Assumes nothing.
 use mathlib.Core.Path.{sym, ◌∙◌}
-use borrow.Author.Tests.{not-true}
-use borrow.Author.Rules.{rules}
 use Rattle.origin.proofs.Ruled.{not_listed}
 use Rattle.origin.proofs.listed.Goals as goal
 

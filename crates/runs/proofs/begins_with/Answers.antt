@@ -1,12 +1,10 @@
 -- `runs::begins_with` meets its contract: what is left of the head stands at the front of what is left of s exactly if the head
 -- stands at the front of s. Assumes nothing.
-use mathlib.Core.Path.{◌≡◌, refl, sym, ◌∙◌}
-use Prim.Native.Nat.{◌-◌, ◌≤◌}
+use mathlib.Core.Path.{refl, sym, ◌∙◌}
 use native.Mathlib.Numerals.{add-one}
 use native.Mathlib.Omega.{arith}
-use lib.ListN.{length, drop, drop_of_length-le}
+use lib.ListN.{drop_of_length-le}
 use borrow.Author.Tests.{eq-eqb, ne_eqb}
-use Rattle.runs.specs.Runs.{begins_with}
 use Rattle.runs.proofs.Begins.{begins-short, begins_turn}
 use Rattle.runs.proofs.begins_with.Goals as goal
 

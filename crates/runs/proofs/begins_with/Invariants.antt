@@ -1,13 +1,9 @@
 -- `runs::begins_with` meets its contract: what is left of the head stands at the front of what is left of s exactly if the head
 -- stands at the front of s. Assumes nothing.
-use mathlib.Core.Path.{◌≡◌, refl, sym, ◌∙◌}
+use mathlib.Core.Path.{◌≡◌}
 use Prim.Native.Nat.{◌-◌, ◌≤◌}
-use native.Mathlib.Numerals.{add-one}
-use native.Mathlib.Omega.{arith}
-use lib.ListN.{length, drop, drop_of_length-le}
-use borrow.Author.Tests.{eq-eqb, ne_eqb}
+use lib.ListN.{length, drop}
 use Rattle.runs.specs.Runs.{begins_with}
-use Rattle.runs.proofs.Begins.{begins-short, begins_turn}
 use Rattle.runs.proofs.begins_with.Given as goal
 
 abbrev pub invariant-loop-i : goal.invariant-loop-i

@@ -1,11 +1,8 @@
 -- `runs::compare` meets its contract: what is left of both runs, from the i-th byte on, compares as the runs do.
 -- Assumes nothing.
-use mathlib.Core.Path.{◌≡◌, refl, sym, ◌∙◌}
-use Prim.Native.Nat.{◌-◌, ◌≤◌}
+use mathlib.Core.Path.{refl, sym, ◌∙◌}
 use native.Mathlib.Nat.{le_antisymm}
 use native.Mathlib.Omega.{arith}
-use lib.ListN.{length, drop}
-use Rattle.runs.specs.Runs.{cmp}
 use Rattle.runs.proofs.Ordered.{turn_less, turn_greater, turn_same, turn_long, turn_short, turn_ended}
 use Rattle.runs.proofs.compare.Goals as goal
 

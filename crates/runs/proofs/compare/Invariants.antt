@@ -1,12 +1,9 @@
 -- `runs::compare` meets its contract: what is left of both runs, from the i-th byte on, compares as the runs do.
 -- Assumes nothing.
-use mathlib.Core.Path.{◌≡◌, refl, sym, ◌∙◌}
+use mathlib.Core.Path.{◌≡◌}
 use Prim.Native.Nat.{◌-◌, ◌≤◌}
-use native.Mathlib.Nat.{le_antisymm}
-use native.Mathlib.Omega.{arith}
 use lib.ListN.{length, drop}
 use Rattle.runs.specs.Runs.{cmp}
-use Rattle.runs.proofs.Ordered.{turn_less, turn_greater, turn_same, turn_long, turn_short, turn_ended}
 use Rattle.runs.proofs.compare.Given as goal
 
 abbrev pub invariant-loop-i : goal.invariant-loop-i

@@ -1,11 +1,9 @@
 -- `runs::ends_with` meets its contract: the last bytes of both runs, as many as have been seen, are the same.
 -- Assumes nothing.
 use mathlib.Core.Path.{◌≡◌, sym, ◌∙◌}
-use mathlib.Core.Bool.{true}
-use Prim.Native.Nat.{◌-◌, ◌≤◌}
+use Prim.Native.Nat.{◌-◌}
 use native.Mathlib.Omega.{arith}
-use lib.ListN.{length, drop}
-use Rattle.runs.specs.Runs.{same_text}
+use lib.ListN.{length}
 use Rattle.runs.proofs.Ends.{ends-short, ends_here, tail_differs, tail_turn, tail_none}
 use Rattle.runs.proofs.ends_with.Goals as goal
 

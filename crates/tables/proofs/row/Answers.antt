@@ -3,7 +3,6 @@ use native.Mathlib.Omega.{arith}
 use Prim.Native.Nat.{◌≤◌}
 use lib.ListN.{length}
 use Rattle.tables.specs.Tables.{Cuts, row_at}
-use borrow.Author.Rules.{rules}
 use Rattle.tables.proofs.row.Goals as goal
 use Rattle.tables.proofs.row.Goals.{After-wide-to}
 

@@ -1,9 +1,7 @@
 -- `tokenizer::copy_numbers` meets its contract: the numbers copied so far, and the old ones behind them. Assumes nothing.
-use borrow.Author.Rules.{rules}
-use Prim.Native.Nat.{◌+◌, ◌-◌, ◌≤◌}
 use native.Mathlib.Omega.{arith}
-use mathlib.Core.Path.{◌≡◌, refl, sym, ap, ◌∙◌}
-use lib.ListN.{length, length-set}
+use mathlib.Core.Path.{◌≡◌, refl, ap, ◌∙◌}
+use lib.ListN.{length-set}
 use lib.Seq.{paste, paste-zero}
 use Rattle.tokenizer.proofs.Answered.{copied_next}
 use Rattle.tokenizer.proofs.copy_numbers.Goals as goal

@@ -1,11 +1,8 @@
 -- `tokenizer::copy_numbers` meets its contract: the numbers copied so far, and the old ones behind them. Assumes nothing.
-use borrow.Author.Rules.{rules}
-use Prim.Native.Nat.{◌+◌, ◌-◌, ◌≤◌}
-use native.Mathlib.Omega.{arith}
-use mathlib.Core.Path.{◌≡◌, refl, sym, ap, ◌∙◌}
-use lib.ListN.{length, length-set}
-use lib.Seq.{paste, paste-zero}
-use Rattle.tokenizer.proofs.Answered.{copied_next}
+use Prim.Native.Nat.{◌-◌, ◌≤◌}
+use mathlib.Core.Path.{◌≡◌}
+use lib.ListN.{length}
+use lib.Seq.{paste}
 use Rattle.tokenizer.proofs.copy_numbers.Given as goal
 
 abbrev pub invariant-loop-i : goal.invariant-loop-i

@@ -2,9 +2,8 @@
 -- Assumes nothing.
 use borrow.Author.Tests.{not-true, not-false}
 use native.Mathlib.Omega.{arith}
-use mathlib.Core.Path.{◌≡◌, sym, ap, ◌∙◌}
+use mathlib.Core.Path.{sym, ◌∙◌}
 use Rattle.tokenizer.proofs.Answered.{long, other, short, all, all_copied}
-use borrow.Author.Rules.{rules}
 use Rattle.tokenizer.proofs.tokenize.Goals as goal
 
 pub returns-then-text-gt65536 : goal.returns-then-text-gt65536

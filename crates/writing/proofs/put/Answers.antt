@@ -1,5 +1,5 @@
 -- `put` meets its contract: what does not fit is not put; what fits stands there. Assumes nothing.
-use Rattle.std.proofs.Common.{◌≤◌, arith, refl}
+use Rattle.std.proofs.Common.{arith, refl}
 use Rattle.writing.proofs.Puts.{put_copied}
 use Rattle.writing.proofs.put.Goals as goal
 

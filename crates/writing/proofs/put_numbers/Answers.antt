@@ -1,13 +1,12 @@
 -- `put_numbers` meets its contract, for one number and for two. Assumes nothing.
 use Prim.Native.Nat.{ℕ}
-use mathlib.Core.Path.{◌≡◌, refl, sym, ap, ◌∙◌}
+use mathlib.Core.Path.{◌≡◌, sym, ap, ◌∙◌}
 use mathlib.Core.List.{List, [], ◌∷◌, ◌++◌, append-nil, append_assoc}
 use Rattle.writing.specs.Decimal.{decimal}
 use Rattle.refusals.specs.Refusals.{numbers_told}
 use Rattle.writing.specs.Refused.{refused_text}
 use Rattle.refusals.specs.declared.Numbers.{Numbers}
 use Rattle.writing.proofs.Puts.{put_both, put_as}
-use borrow.Author.Rules.{rules}
 use Rattle.writing.proofs.put_numbers.Goals as goal
 
 -- the two lines of a refusal, piece by piece

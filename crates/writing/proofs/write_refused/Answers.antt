@@ -1,11 +1,8 @@
 -- `write_refused` meets its contract: the first call tells the length, the second writes. Assumes nothing.
 use native.Mathlib.Omega.{arith}
 use mathlib.Core.Path.{refl, ap}
-use mathlib.Core.List.{List}
-use Prim.Native.Nat.{ℕ}
 use Rattle.writing.specs.Refused.{refused_text}
 use Rattle.writing.proofs.Puts.{put_as, written-whole, written-not}
-use borrow.Author.Rules.{rules}
 use Rattle.writing.proofs.write_refused.Goals as goal
 
 pub slice_bounds-put_numbers-end : goal.slice_bounds-put_numbers-end

@@ -1,5 +1,5 @@
 -- `entry::put_line` meets its contract: the given line takes the place that was found for it. Assumes nothing.
-use Prim.Native.Nat.{◌-◌, ◌≤◌}
+use Prim.Native.Nat.{◌≤◌}
 use native.Mathlib.Omega.{arith}
 use mathlib.Core.Path.{subst}
 use lib.ListN.{length, take}
@@ -7,7 +7,6 @@ use Rattle.corrected.specs.Answers.{opening_of}
 use Rattle.corrected.specs.Spans.{Opens}
 use Rattle.corrected.specs.declared.place.Opened.TheVariants.{At}
 use Rattle.corrected.proofs.Answered.{short, inside, put_refused, put-none, put-over, put_done}
-use borrow.Author.Rules.{rules}
 use Rattle.corrected.proofs.entry.put_line.Goals as goal
 use Rattle.corrected.proofs.entry.put_line.Goals.{In-At}
 

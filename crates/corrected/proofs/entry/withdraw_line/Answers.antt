@@ -1,5 +1,5 @@
 -- `entry::withdraw_line` meets its contract: the bytes of the line that was found are closed up. Assumes nothing.
-use Prim.Native.Nat.{◌-◌, ◌≤◌}
+use Prim.Native.Nat.{◌≤◌}
 use native.Mathlib.Omega.{arith}
 use mathlib.Core.Path.{subst}
 use lib.ListN.{length, take}
@@ -7,7 +7,6 @@ use Rattle.corrected.specs.Answers.{opening_of}
 use Rattle.corrected.specs.Spans.{Opens}
 use Rattle.corrected.specs.declared.place.Opened.TheVariants.{At}
 use Rattle.corrected.proofs.Answered.{short, inside, withdraw_refused, withdraw_none, withdraw_done}
-use borrow.Author.Rules.{rules}
 use Rattle.corrected.proofs.entry.withdraw_line.Goals as goal
 use Rattle.corrected.proofs.entry.withdraw_line.Goals.{In-At}
 

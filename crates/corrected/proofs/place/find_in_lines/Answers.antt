@@ -9,7 +9,6 @@ use Rattle.sheet.specs.Forms.{entry_of}
 use Rattle.corrected.specs.Sets.{is_single}
 use Rattle.corrected.specs.Spans.{Spanned}
 use Rattle.corrected.proofs.Singles.{other_told, single_told, single_written, single_inside, single_key, single_accepted}
-use borrow.Author.Rules.{rules}
 use Rattle.corrected.proofs.place.find_in_lines.Goals as goal
 use Rattle.corrected.proofs.place.find_in_lines.Goals.{In-Single}
 

@@ -6,7 +6,6 @@ use Rattle.sheet.specs.declared.inputs.Inputs.{Inputs}
 use Rattle.lookup.proofs.Readied.{indexed}
 use Rattle.corrected.specs.Answers.{of_line}
 use Rattle.corrected.specs.Spans.{Opens}
-use borrow.Author.Rules.{rules}
 use Rattle.corrected.proofs.place.find_in_sheet.Goals as goal
 
 pub slice_bounds-find_in_lines-end : goal.slice_bounds-find_in_lines-end

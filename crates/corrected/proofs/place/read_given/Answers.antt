@@ -2,7 +2,6 @@
 use mathlib.Core.Path.{sym, ◌∙◌}
 use Rattle.sheet.specs.declared.walk.Reached.TheVariants.{Form}
 use Rattle.corrected.proofs.Singles.{ToldFirst, first-told, empty_given, none-given, more_given, single_given}
-use borrow.Author.Rules.{rules}
 use Rattle.corrected.proofs.place.read_given.Goals as goal
 use Rattle.corrected.proofs.place.read_given.Goals.{In-Form}
 

@@ -11,7 +11,6 @@ use Rattle.sheet.specs.Lines.{line_at}
 use Rattle.sheet.proofs.Forms.{line-fits, written-length}
 use Rattle.lookup.proofs.Settled.{indexed-form}
 use Rattle.corrected.proofs.Spanning.{span-end, span-held, span-lone, span_never}
-use borrow.Author.Rules.{rules}
 use Rattle.corrected.proofs.place.span_of.Goals as goal
 use Rattle.corrected.proofs.place.span_of.Lts.View.{up-Else-starts-i}
 use Rattle.corrected.proofs.place.span_of.Goals.{After-line_order-order, Else-starts-i}

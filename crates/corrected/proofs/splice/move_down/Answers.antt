@@ -1,8 +1,7 @@
 -- `splice::move_down` meets its contract: the first k bytes are moved. Assumes nothing.
-use Prim.Native.Nat.{◌-◌, ◌≤◌}
 use native.Mathlib.Omega.{arith}
 use mathlib.Core.Path.{◌≡◌, refl, ap, ◌∙◌}
-use lib.ListN.{length, drop, length-set}
+use lib.ListN.{drop, length-set}
 use lib.Seq.{paste, paste-zero}
 use Rattle.corrected.proofs.Spliced.{down_turn}
 use Rattle.corrected.proofs.splice.move_down.Goals as goal

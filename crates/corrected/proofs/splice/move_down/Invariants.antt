@@ -1,10 +1,8 @@
 -- `splice::move_down` meets its contract: the first k bytes are moved. Assumes nothing.
 use Prim.Native.Nat.{◌-◌, ◌≤◌}
-use native.Mathlib.Omega.{arith}
-use mathlib.Core.Path.{◌≡◌, refl, ap, ◌∙◌}
-use lib.ListN.{length, drop, length-set}
-use lib.Seq.{paste, paste-zero}
-use Rattle.corrected.proofs.Spliced.{down_turn}
+use mathlib.Core.Path.{◌≡◌}
+use lib.ListN.{length, drop}
+use lib.Seq.{paste}
 use Rattle.corrected.proofs.splice.move_down.Given as goal
 
 abbrev pub invariant-loop-k : goal.invariant-loop-k

@@ -1,8 +1,8 @@
 -- `splice::move_up` meets its contract: all but the first k bytes are moved. Assumes nothing.
-use Prim.Native.Nat.{ℕ, ◌+◌, ◌-◌, ◌≤◌}
+use Prim.Native.Nat.{ℕ, ◌+◌, ◌-◌}
 use native.Mathlib.Omega.{arith}
 use mathlib.Core.Path.{◌≡◌, refl, ap, ◌∙◌}
-use lib.ListN.{length, drop, length-set}
+use lib.ListN.{drop, length-set}
 use lib.Seq.{paste, paste-zero}
 use Rattle.corrected.proofs.Spliced.{up_turn}
 use Rattle.corrected.proofs.splice.move_up.Goals as goal

@@ -1,6 +1,5 @@
 -- `splice::replace` meets its contract: what stands behind is moved, and then the text is copied. Assumes nothing.
 use Rattle.corrected.proofs.Spliced.{replaced}
-use borrow.Author.Rules.{rules}
 use Rattle.corrected.proofs.splice.replace.Goals as goal
 
 pub returns : goal.returns

@@ -1,7 +1,6 @@
 -- `answers::kind_of` meets its contract: the kind that the value spells.
 -- Assumes nothing.
 use mathlib.Core.Path.{ap}
-use borrow.Author.Rules.{rules}
 use borrow.Author.Tests.{not-true, not-false}
 use Rattle.lookup.specs.Answers.{ValueOf, kind_told, kind_for}
 use Rattle.lookup.proofs.Parts.{one-part, unread, kind_read}

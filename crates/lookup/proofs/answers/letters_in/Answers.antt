@@ -1,7 +1,6 @@
 -- `answers::letters_in` meets its contract: the letters that the value spells. Assumes nothing.
 use mathlib.Core.Path.{ap, ◌∙◌}
 use mathlib.Core.List.{◌++◌}
-use borrow.Author.Rules.{rules}
 use Rattle.sheet.specs.Replies.{letters_told, letters_for}
 use Rattle.lookup.proofs.Parts as parts
 use Rattle.lookup.proofs.answers.letters_in.Goals as goal

@@ -1,6 +1,5 @@
 -- `answers::letters_of` meets its contract: the letters that the value spells. Assumes nothing.
 use mathlib.Core.Path.{ap, ◌∙◌}
-use borrow.Author.Rules.{rules}
 use Rattle.sheet.specs.Replies.{letters_told, letters_for}
 use Rattle.lookup.proofs.answers.letters_of.Goals as goal
 

@@ -1,6 +1,5 @@
 -- `answers::link_of` meets its contract: a name and nothing behind it is the name.
 -- Assumes nothing.
-use borrow.Author.Rules.{rules}
 use Rattle.lookup.proofs.Parts.{one-part}
 use Rattle.lookup.proofs.answers.link_of.Goals as goal
 

@@ -1,12 +1,9 @@
 -- `answers::spot_of` meets its contract: the name of the line found stands from its fourth byte on, up to its own end. Assumes nothing.
-use mathlib.Core.Path.{◌≡◌, refl, sym, ap, ◌∙◌}
-use mathlib.Core.Bool.{true}
+use mathlib.Core.Path.{refl}
 use mathlib.Core.List.{◌++◌}
-use Prim.Native.Nat.{ℕ, ◌+◌, ◌≤◌}
+use Prim.Native.Nat.{◌+◌, ◌≤◌}
 use native.Mathlib.Omega.{arith}
-use lib.ListN.{length, drop}
-use borrow.Author.Rules.{rules}
-use Rattle.sheet.specs.Forms.{is_form}
+use lib.ListN.{length}
 use Rattle.sheet.specs.Steps.{value_end}
 use Rattle.sheet.proofs.Forms.{line-fits}
 use Rattle.lookup.specs.Search.{Sought}

@@ -1,9 +1,8 @@
 -- `answers::value_at` meets its contract: the value stands between the line's own ends. Assumes nothing.
-use mathlib.Core.Path.{◌≡◌, sym, ap, subst, ◌∙◌}
-use Prim.Native.Nat.{ℕ, ◌+◌, ◌≤◌}
+use mathlib.Core.Path.{sym, ap, subst, ◌∙◌}
+use Prim.Native.Nat.{◌+◌, ◌≤◌}
 use native.Mathlib.Omega.{arith}
 use lib.ListN.{length}
-use borrow.Author.Rules.{rules}
 use Rattle.sheet.specs.Steps.{value_end}
 use Rattle.sheet.proofs.Forms.{line-fits}
 use Rattle.lookup.specs.Answers.{FormAt, value_spot}

@@ -1,6 +1,4 @@
 -- `answers::value_of` meets its contract: the value of the line found is what the sheet replies. Assumes nothing.
-use mathlib.Core.List.{◌++◌}
-use borrow.Author.Rules.{rules}
 use Rattle.lookup.proofs.Parts as parts
 use Rattle.lookup.proofs.answers.value_of.Goals as goal
 

@@ -1,16 +1,15 @@
 -- `begins::edge_of` meets its contract: all lines before number lo stand below, the line of number hi does not, and that of number top
 -- stands above. Assumes nothing.
-use mathlib.Core.Path.{◌≡◌, refl, sym, ap, ◌∙◌}
-use Prim.Native.Nat.{ℕ, ◌+◌, ◌-◌, ◌/◌, ◌≤◌, ◌<◌}
+use mathlib.Core.Path.{◌≡◌, sym, ap, ◌∙◌}
+use Prim.Native.Nat.{ℕ, ◌+◌, ◌-◌, ◌/◌}
 use native.Mathlib.Omega.{arith}
-use lib.ListN.{length, drop, get_or}
-use borrow.Author.Rules.{rules}
+use lib.ListN.{drop}
 use Rattle.runs.specs.declared.Order.{Order}
 use Rattle.runs.specs.declared.Order.TheVariants.{Less, Equal, Greater}
 use Rattle.sheet.specs.Forms.{is_form, key, key_of}
 use Rattle.sheet.specs.Lines.{line_at}
 use Rattle.sheet.specs.Keys.{headed}
-use Rattle.lookup.specs.Begins.{headed_at, Edged, Ended}
+use Rattle.lookup.specs.Begins.{headed_at}
 use Rattle.lookup.proofs.Settled.{indexed-form}
 use Rattle.lookup.proofs.begins.edge_of.Goals as goal
 use Rattle.lookup.proofs.begins.edge_of.Goals.{After-head_order-o}

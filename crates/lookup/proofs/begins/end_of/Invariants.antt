@@ -1,17 +1,9 @@
 -- `begins::end_of` meets its contract: no line from the first on before number lo stands above, and that of number hi does.
 -- Assumes nothing.
-use mathlib.Core.Path.{◌≡◌, refl, sym, ap, ◌∙◌}
-use Prim.Native.Nat.{ℕ, ◌+◌, ◌-◌, ◌/◌, ◌≤◌, ◌<◌}
-use native.Mathlib.Omega.{arith}
-use lib.ListN.{length, drop, get_or}
-use borrow.Author.Rules.{rules}
-use Rattle.runs.specs.declared.Order.{Order}
-use Rattle.runs.specs.declared.Order.TheVariants.{Less, Equal, Greater}
-use Rattle.sheet.specs.Forms.{is_form, key, key_of}
-use Rattle.sheet.specs.Lines.{line_at}
-use Rattle.sheet.specs.Keys.{headed}
-use Rattle.lookup.specs.Begins.{headed_at, Edged, Ended}
-use Rattle.lookup.proofs.Settled.{indexed-form}
+use mathlib.Core.Path.{◌≡◌}
+use Prim.Native.Nat.{◌-◌, ◌≤◌, ◌<◌}
+use Rattle.runs.specs.declared.Order.TheVariants.{Greater}
+use Rattle.lookup.specs.Begins.{headed_at}
 use Rattle.lookup.proofs.begins.end_of.Given as goal
 
 abbrev pub invariant-loop-lo : goal.invariant-loop-lo

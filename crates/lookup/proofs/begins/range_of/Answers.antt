@@ -1,5 +1,4 @@
 -- `begins::range_of` meets its contract: what the two searches find are the bounds of the lines that begin so. Assumes nothing.
-use borrow.Author.Rules.{rules}
 use Rattle.lookup.proofs.Begun.{ranged}
 use Rattle.lookup.proofs.begins.range_of.Goals as goal
 

@@ -1,17 +1,14 @@
 -- `lines::check_lines` meets its contract: all lines are judged as those from the walk's place on; the stored starts, and those of the
 -- lines to come, are the starts of all lines. Assumes nothing.
-use Prim.Native.Nat.{ℕ, ◌-◌, ◌*◌, ◌<◌, ◌≤◌}
+use Prim.Native.Nat.{ℕ, ◌<◌, ◌≤◌}
 use native.Mathlib.Omega.{arith}
-use borrow.Author.Rules.{rules}
 use mathlib.Core.Path.{◌≡◌, refl, sym, ap, ◌∙◌}
-use mathlib.Core.List.{List, [], ◌∷◌, ◌++◌, append-nil}
-use lib.ListN.{length, take, drop, get_or, length-set}
+use mathlib.Core.List.{List, ◌∷◌, ◌++◌, append-nil}
+use lib.ListN.{length, take, get_or, length-set}
 use lib.Seq.{length-take-le}
-use Rattle.sheet.specs.Limits.{shortest_line}
-use Rattle.sheet.specs.Lines.{starts_of, sheet_check}
-use Rattle.sheet.specs.Walks.{Standing, starts_ahead}
-use Rattle.sheet.specs.declared.check.SheetCheck.{SheetCheck}
-use Rattle.sheet.proofs.Walks.{Formed, Faulty, judged_ahead, turn, check_long, check_walk}
+use Rattle.sheet.specs.Lines.{starts_of}
+use Rattle.sheet.specs.Walks.{starts_ahead}
+use Rattle.sheet.proofs.Walks.{Formed, turn, check_long, check_walk}
 use Rattle.lookup.specs.Starts.{Room}
 use Rattle.lookup.specs.Stored.{stored_in}
 use Rattle.lookup.proofs.Count.{stored-front, stored-behind, stored_far, line_next}

@@ -1,6 +1,4 @@
 -- `lines::first_refusal` meets its contract: what refuses the word refuses it with every sheet. Assumes nothing.
-use mathlib.Core.Path.{◌≡◌, refl, sym, ◌∙◌}
-use borrow.Author.Rules.{rules}
 use Rattle.lookup.proofs.Readied.{refused_with, accepted_with}
 use Rattle.lookup.proofs.lines.first_refusal.Goals as goal
 

@@ -1,6 +1,5 @@
 -- `lines::prepare_sheet` meets its contract, answer by answer. Assumes nothing.
 use mathlib.Core.Path.{refl}
-use borrow.Author.Rules.{rules}
 use Rattle.lookup.proofs.Readied.{sheet_ready}
 use Rattle.lookup.proofs.lines.prepare_sheet.Goals as goal
 

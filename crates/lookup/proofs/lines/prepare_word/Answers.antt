@@ -1,6 +1,5 @@
 -- `lines::prepare_word` meets its contract, answer by answer. Assumes nothing.
-use mathlib.Core.Path.{◌≡◌, sym, ap, ◌∙◌}
-use borrow.Author.Rules.{rules}
+use mathlib.Core.Path.{sym, ap, ◌∙◌}
 use Rattle.text.specs.declared.word.WordCheck.{WordCheck}
 use Rattle.sheet.specs.Inputs.{by_word_then}
 use Rattle.sheet.specs.declared.inputs.Inputs.TheVariants.{Accepted}

@@ -2,11 +2,10 @@
 -- answers as asking all lines does. Assumes nothing.
 use mathlib.Core.Path.{◌≡◌, refl, sym, ap, ◌∙◌}
 use mathlib.Core.List.{List, ◌++◌}
-use Prim.Native.Nat.{ℕ, ◌-◌, ◌≤◌}
+use Prim.Native.Nat.{ℕ, ◌-◌}
 use native.Mathlib.Omega.{arith}
 use lib.ListN.{length, take, drop, length-drop, length-take}
 use lib.Seq.{take-length}
-use borrow.Author.Rules.{rules}
 use Rattle.sheet.specs.Forms.{is_form, key_of}
 use Rattle.sheet.specs.Limits.{enough_rounds}
 use Rattle.lookup.specs.Search.{asked}

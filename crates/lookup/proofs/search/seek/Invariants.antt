@@ -1,17 +1,12 @@
 -- `search::seek` meets its contract: asking the lines from number lo on that come before number hi, in the rounds that are left,
 -- answers as asking all lines does. Assumes nothing.
-use mathlib.Core.Path.{◌≡◌, refl, sym, ap, ◌∙◌}
-use mathlib.Core.List.{List, ◌++◌}
-use Prim.Native.Nat.{ℕ, ◌-◌, ◌≤◌}
-use native.Mathlib.Omega.{arith}
-use lib.ListN.{length, take, drop, length-drop, length-take}
-use lib.Seq.{take-length}
-use borrow.Author.Rules.{rules}
-use Rattle.sheet.specs.Forms.{is_form, key_of}
+use mathlib.Core.Path.{◌≡◌}
+use mathlib.Core.List.{◌++◌}
+use Prim.Native.Nat.{◌-◌, ◌≤◌}
+use lib.ListN.{length, take, drop}
+use Rattle.sheet.specs.Forms.{key_of}
 use Rattle.sheet.specs.Limits.{enough_rounds}
 use Rattle.lookup.specs.Search.{asked}
-use Rattle.lookup.proofs.Rounds.{asked-none, asked_spent, round_counted}
-use Rattle.lookup.proofs.Settled.{indexed-form, sought}
 use Rattle.lookup.proofs.search.seek.Given as goal
 
 abbrev pub invariant-loop-rounds : goal.invariant-loop-rounds

@@ -1,7 +1,6 @@
 -- `entries::classify` meets its contract, answer by answer. Assumes nothing.
 use mathlib.Core.Path.{sym, ap, ◌∙◌}
 use Rattle.origin.specs.Answers.{origin_only}
-use borrow.Author.Rules.{rules}
 use Rattle.origin.proofs.entries.classify.Goals as goal
 
 pub returns-in-Decided : goal.returns-in-Decided

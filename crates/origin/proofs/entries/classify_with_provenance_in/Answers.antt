@@ -5,7 +5,6 @@ use Rattle.sheet.specs.declared.inputs.Inputs.{Inputs}
 use Rattle.lookup.proofs.Readied.{said-indexed}
 use Rattle.origin.specs.Answers.{decision_if, decision_answer}
 use Rattle.origin.specs.declared.entries.DecisionAnswer.TheVariants.{Decided}
-use borrow.Author.Rules.{rules}
 use Rattle.origin.proofs.entries.classify_with_provenance_in.Goals as goal
 use Rattle.origin.proofs.entries.classify_with_provenance_in.Goals.{After-prepare_word-inputs}
 

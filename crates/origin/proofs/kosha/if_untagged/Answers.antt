@@ -1,7 +1,6 @@
 -- `kosha::if_untagged` meets its contract, tag by tag. Assumes nothing.
 use mathlib.Core.Path.{sym, ap}
 use Rattle.origin.specs.Decisions.{if_untagged}
-use borrow.Author.Rules.{rules}
 use Rattle.origin.proofs.kosha.if_untagged.Goals as goal
 
 pub returns-in-Tatsam : goal.returns-in-Tatsam

@@ -1,15 +1,14 @@
 -- `kosha::known_among` meets its contract: nothing is known under the suffixes passed. Assumes nothing.
 use mathlib.Core.Path.{◌≡◌, refl, sym, ap, ◌∙◌}
 use mathlib.Core.List.{[]}
-use Prim.Native.Nat.{◌-◌, ◌≤◌, ◌<◌}
-use lib.ListN.{length, drop, get_or}
+use Prim.Native.Nat.{◌<◌}
+use lib.ListN.{length, get_or}
 use Rattle.tables.specs.Rows.{strip_suffixes}
 use Rattle.tables.proofs.Laid.{laid-asks, laid-row}
 use Rattle.tables.proofs.Facts.{strip_suffix_count}
 use Rattle.sheet.specs.Replies.{reply}
-use Rattle.origin.specs.Decisions.{first_known, known_under, known_stem}
+use Rattle.origin.specs.Decisions.{known_under, known_stem}
 use Rattle.origin.proofs.Stems.{first_at, first-end}
-use borrow.Author.Rules.{rules}
 use native.Mathlib.Omega.{arith}
 use Rattle.origin.proofs.kosha.known_among.Goals as goal
 use Rattle.origin.proofs.kosha.known_among.Lts.View.{up-In-loop-k}

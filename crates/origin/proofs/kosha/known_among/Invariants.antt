@@ -1,16 +1,10 @@
 -- `kosha::known_among` meets its contract: nothing is known under the suffixes passed. Assumes nothing.
-use mathlib.Core.Path.{◌≡◌, refl, sym, ap, ◌∙◌}
-use mathlib.Core.List.{[]}
-use Prim.Native.Nat.{◌-◌, ◌≤◌, ◌<◌}
-use lib.ListN.{length, drop, get_or}
+use mathlib.Core.Path.{◌≡◌}
+use Prim.Native.Nat.{◌-◌, ◌≤◌}
+use lib.ListN.{drop}
 use Rattle.tables.specs.Rows.{strip_suffixes}
-use Rattle.tables.proofs.Laid.{laid-asks, laid-row}
-use Rattle.tables.proofs.Facts.{strip_suffix_count}
 use Rattle.sheet.specs.Replies.{reply}
 use Rattle.origin.specs.Decisions.{first_known, known_under, known_stem}
-use Rattle.origin.proofs.Stems.{first_at, first-end}
-use borrow.Author.Rules.{rules}
-use native.Mathlib.Omega.{arith}
 use Rattle.origin.proofs.kosha.known_among.Given as goal
 
 abbrev pub invariant-loop-k : goal.invariant-loop-k

@@ -1,7 +1,6 @@
 -- `kosha::known_by` meets its contract: the tag, or whether the name is a headword. Assumes nothing.
 use mathlib.Core.Path.{◌∙◌}
 use Rattle.origin.proofs.Stems.{told}
-use borrow.Author.Rules.{rules}
 use Rattle.origin.proofs.kosha.known_by.Goals as goal
 
 pub returns-then-letters : goal.returns-then-letters

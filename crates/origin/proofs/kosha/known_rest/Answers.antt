@@ -3,7 +3,6 @@ use Prim.Native.Nat.{◌≤◌, ◌<◌}
 use borrow.Author.Tests.{le-ltb, lt-ltb}
 use Rattle.text.specs.Characters.{chars}
 use Rattle.origin.specs.Decisions.{known_rest}
-use borrow.Author.Rules.{rules}
 use native.Mathlib.Omega.{arith}
 use Rattle.origin.proofs.kosha.known_rest.Goals as goal
 

@@ -1,7 +1,5 @@
 -- `kosha::known_stem` meets its contract: a word that can end in no suffix has no remainder. Assumes nothing.
 use mathlib.Core.Path.{sym, ◌∙◌}
-use borrow.Author.Tests.{not-true}
-use borrow.Author.Rules.{rules}
 use Rattle.origin.proofs.Ruled.{no-stem}
 use Rattle.origin.proofs.kosha.known_stem.Goals as goal
 

@@ -4,7 +4,6 @@ use lib.Seq.{length-take-le}
 use Rattle.sheet.specs.Replies.{reply}
 use Rattle.strips.proofs.Remainders.{Inside}
 use Rattle.origin.proofs.Stems.{under_inside, under_none, under_plain, under_one, under_two}
-use borrow.Author.Rules.{rules}
 use Rattle.origin.proofs.kosha.known_under.Goals as goal
 use Rattle.origin.proofs.kosha.known_under.Goals.{After-suffix_rests-rests}
 

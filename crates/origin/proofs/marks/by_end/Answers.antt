@@ -1,6 +1,5 @@
 -- `marks::by_end` meets its contract. Assumes nothing.
 use mathlib.Core.Path.{sym, ◌∙◌}
-use borrow.Author.Rules.{rules}
 use Rattle.origin.proofs.marks.by_end.Goals as goal
 
 pub returns-then-has_tadbhav_markers : goal.returns-then-has_tadbhav_markers

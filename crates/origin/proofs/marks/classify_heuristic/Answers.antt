@@ -1,8 +1,6 @@
 -- `marks::classify_heuristic` meets its contract: the tests stand in the definition's order, and a word in which no mark can begin
 -- passes neither of the first two. Assumes nothing.
 use mathlib.Core.Path.{sym, ◌∙◌}
-use borrow.Author.Tests.{not-true, not-false}
-use borrow.Author.Rules.{rules}
 use Rattle.origin.specs.Marks.{heuristic_of}
 use Rattle.origin.proofs.Ruled.{no_aagantuk, no_tatsam}
 use Rattle.origin.proofs.marks.classify_heuristic.Goals as goal

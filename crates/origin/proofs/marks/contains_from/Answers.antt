@@ -1,11 +1,8 @@
 -- `marks::contains_from` meets its contract: the word contains the text exactly if what is left of the word does. Assumes nothing.
 use mathlib.Core.Path.{◌≡◌, refl, sym, ap, ◌∙◌}
-use Prim.Native.Nat.{◌-◌, ◌≤◌}
-use lib.ListN.{length, drop}
+use lib.ListN.{drop}
 use Rattle.runs.specs.Runs.{begins_with}
-use Rattle.origin.specs.Marks.{contains}
 use Rattle.origin.proofs.Marked.{rest_lent, contains_here, contains_next, contains-end}
-use borrow.Author.Rules.{rules}
 use native.Mathlib.Omega.{arith}
 use Rattle.origin.proofs.marks.contains_from.Goals as goal
 use Rattle.origin.proofs.marks.contains_from.Goals.{After-begins_with}

@@ -1,12 +1,7 @@
 -- `marks::contains_one` meets its contract: what stands before the place begins with none of the texts. Assumes nothing.
-use mathlib.Core.Path.{◌≡◌, refl, sym, ap, ◌∙◌}
-use mathlib.Core.Bool.{Bool, true, false}
-use mathlib.Core.List.{List}
-use Prim.Native.Nat.{ℕ, ◌-◌, ◌≤◌}
+use mathlib.Core.Path.{refl, sym, ◌∙◌}
 use native.Mathlib.Omega.{arith}
-use lib.ListN.{length, drop}
-use borrow.Author.Rules.{rules}
-use Rattle.origin.specs.Marks.{contains, some, cut, contains_one, begins_one}
+use Rattle.origin.specs.Marks.{cut, contains_one}
 use Rattle.origin.proofs.Ruled.{found_at, next_at, none_at_end}
 use Rattle.origin.proofs.marks.contains_one.Goals as goal
 

@@ -1,13 +1,11 @@
 -- `marks::ends_in_one` meets its contract: the texts passed are none in which the word ends. Assumes nothing.
 use mathlib.Core.Path.{◌≡◌, refl, sym, ap, ◌∙◌}
 use mathlib.Core.List.{List}
-use Prim.Native.Nat.{ℕ, ◌-◌, ◌≤◌}
-use lib.ListN.{length, drop}
+use Prim.Native.Nat.{ℕ}
 use Rattle.runs.specs.Runs.{ends_in}
 use Rattle.tables.specs.Tables.{row_at}
-use Rattle.origin.specs.Marks.{some, cut, ends_in_one}
+use Rattle.origin.specs.Marks.{ends_in_one}
 use Rattle.origin.proofs.Marked.{some_here, some_next, some_end}
-use borrow.Author.Rules.{rules}
 use native.Mathlib.Omega.{arith}
 use Rattle.origin.proofs.marks.ends_in_one.Goals as goal
 use Rattle.origin.proofs.marks.ends_in_one.Goals.{After-ends_with}

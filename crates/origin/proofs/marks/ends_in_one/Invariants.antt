@@ -1,14 +1,10 @@
 -- `marks::ends_in_one` meets its contract: the texts passed are none in which the word ends. Assumes nothing.
-use mathlib.Core.Path.{◌≡◌, refl, sym, ap, ◌∙◌}
+use mathlib.Core.Path.{◌≡◌}
 use mathlib.Core.List.{List}
 use Prim.Native.Nat.{ℕ, ◌-◌, ◌≤◌}
 use lib.ListN.{length, drop}
 use Rattle.runs.specs.Runs.{ends_in}
-use Rattle.tables.specs.Tables.{row_at}
 use Rattle.origin.specs.Marks.{some, cut, ends_in_one}
-use Rattle.origin.proofs.Marked.{some_here, some_next, some_end}
-use borrow.Author.Rules.{rules}
-use native.Mathlib.Omega.{arith}
 use Rattle.origin.proofs.marks.ends_in_one.Given as goal
 
 abbrev pub invariant-loop-k : goal.invariant-loop-k

@@ -6,7 +6,6 @@ use Prim.Native.Nat.{ℕ}
 use lib.ListN.{drop}
 use Rattle.origin.specs.Marks.{contains, contains_one, aagantuk_marks, nukta, after_first, has_aagantuk_markers}
 use Rattle.origin.proofs.Marked.{can_cut, cut-rows, aagantuk_some, aagantuk_cut, or_true, or_false}
-use borrow.Author.Rules.{rules}
 use Rattle.origin.specs.Quick.{Opens}
 use Rattle.origin.proofs.Ruled.{aagantuk_opens}
 use Rattle.origin.proofs.marks.has_aagantuk_markers.Goals as goal

@@ -4,7 +4,6 @@ use mathlib.Core.List.{List}
 use Prim.Native.Nat.{ℕ}
 use Rattle.origin.specs.Marks.{ends_in_one, tadbhav_ends, has_tadbhav_markers}
 use Rattle.origin.proofs.Marked.{can_cut, cut-rows, tadbhav_some, tadbhav_cut}
-use borrow.Author.Rules.{rules}
 use Rattle.origin.proofs.marks.has_tadbhav_markers.Goals as goal
 
 pub ends_in_one-requires : goal.ends_in_one-requires

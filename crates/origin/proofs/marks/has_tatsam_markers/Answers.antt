@@ -4,7 +4,6 @@ use mathlib.Core.List.{List}
 use Prim.Native.Nat.{ℕ}
 use Rattle.origin.specs.Marks.{contains_one, tatsam_marks, has_tatsam_markers}
 use Rattle.origin.proofs.Marked.{can_cut, cut-rows, tatsam_some, tatsam_cut}
-use borrow.Author.Rules.{rules}
 use Rattle.origin.specs.Quick.{Opens}
 use Rattle.origin.proofs.Ruled.{tatsam_opens}
 use Rattle.origin.proofs.marks.has_tatsam_markers.Goals as goal

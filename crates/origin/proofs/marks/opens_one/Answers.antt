@@ -1,11 +1,6 @@
 -- `marks::opens_one` meets its contract: where no mark can begin, none of the texts does. Assumes nothing.
-use mathlib.Core.Path.{◌≡◌, sym, ap, ◌∙◌}
-use mathlib.Core.List.{List}
-use Prim.Native.Nat.{ℕ}
-use native.Mathlib.Omega.{arith}
+use mathlib.Core.Path.{sym, ap, ◌∙◌}
 use lib.ListN.{drop}
-use borrow.Author.Tests.{not-true}
-use borrow.Author.Rules.{rules}
 use Rattle.origin.specs.Marks.{cut, begins_one}
 use Rattle.origin.proofs.Marked.{rest_lent}
 use Rattle.origin.proofs.Ruled.{none_begin}

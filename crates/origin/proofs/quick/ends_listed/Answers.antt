@@ -1,13 +1,11 @@
 -- `quick::ends_listed` meets its contract, test by test. Assumes nothing.
 use Prim.Native.Nat.{ℕ, ◌-◌, ◌/◌, ◌^◌}
-use native.Mathlib.Omega.{arith}
 use mathlib.Core.Path.{◌≡◌, ap}
 use mathlib.Core.List.{List}
 use lib.ListN.{get_or}
 use lib.Dec.{eqb}
 use lib.Bits.{bit_and}
 use borrow.Author.Tests.{lt-ltb, le-ltb}
-use borrow.Author.Rules.{rules}
 use Rattle.origin.specs.Quick.{last_bytes, ends_listed}
 use Rattle.origin.proofs.quick.ends_listed.Goals as goal
 

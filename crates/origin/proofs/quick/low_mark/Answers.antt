@@ -1,6 +1,5 @@
 -- `quick::low_mark` meets its contract, test by test. Assumes nothing.
 use borrow.Author.Tests.{eq-eqb, ne_eqb}
-use borrow.Author.Rules.{rules}
 use Rattle.origin.specs.Quick.{low_mark}
 use Rattle.origin.proofs.quick.low_mark.Goals as goal
 

@@ -1,6 +1,5 @@
 -- `quick::may_list` meets its contract. Assumes nothing.
 use borrow.Author.Tests.{lt-ltb, le-ltb}
-use borrow.Author.Rules.{rules}
 use Rattle.origin.specs.Quick.{may_list}
 use Rattle.origin.proofs.quick.may_list.Goals as goal
 

@@ -1,5 +1,4 @@
 -- `quick::may_open` meets its contract: bytes of a tail are bytes of the word. Assumes nothing.
-use borrow.Author.Rules.{rules}
 use Rattle.origin.proofs.Ruled.{opened, not_opened}
 use Rattle.origin.proofs.quick.may_open.Goals as goal
 

@@ -1,6 +1,5 @@
 -- `quick::may_strip` meets its contract. Assumes nothing.
 use borrow.Author.Tests.{lt-ltb, le-ltb}
-use borrow.Author.Rules.{rules}
 use Rattle.origin.specs.Quick.{may_strip}
 use Rattle.origin.proofs.quick.may_strip.Goals as goal
 

@@ -1,6 +1,5 @@
 -- `quick::opens_mark` meets its contract, by the second byte. Assumes nothing.
 use borrow.Author.Tests.{eq-eqb, ne_eqb}
-use borrow.Author.Rules.{rules}
 use Rattle.origin.specs.Quick.{opens_mark}
 use Rattle.origin.proofs.quick.opens_mark.Goals as goal
 

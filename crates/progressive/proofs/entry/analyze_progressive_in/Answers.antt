@@ -2,7 +2,6 @@
 use mathlib.Core.Path.{◌∙◌}
 use Rattle.lookup.proofs.Readied.{said-indexed}
 use Rattle.progressive.proofs.Entries.{refused, given}
-use borrow.Author.Rules.{rules}
 use Rattle.progressive.proofs.entry.analyze_progressive_in.Goals as goal
 
 pub returns-in-Refused : goal.returns-in-Refused

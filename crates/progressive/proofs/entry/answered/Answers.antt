@@ -1,12 +1,10 @@
 -- `entry::answered` meets its contract: the starts stored of an accepted sheet stand for it, and a refusal is the lowest that applies. Assumes nothing.
-use Prim.Native.Nat.{ℕ, ◌≤◌}
-use mathlib.Core.Path.{◌≡◌, refl, sym, ap, ◌∙◌}
+use Prim.Native.Nat.{ℕ}
+use mathlib.Core.Path.{refl, sym}
 use mathlib.Core.List.{List}
-use lib.ListN.{length}
 use lib.Seq.{length-take-le}
 use Rattle.lookup.proofs.Readied.{said-refused, indexed}
 use Rattle.progressive.proofs.Entries.{refused}
-use borrow.Author.Rules.{rules}
 use Rattle.progressive.proofs.entry.answered.Goals as goal
 use Rattle.progressive.proofs.entry.answered.Goals.{After-prepare_sheet-ready}
 

@@ -1,5 +1,4 @@
 -- `entry::has_supported_progressive_form` meets its contract: an answer says whether a form is found. Assumes nothing.
-use borrow.Author.Rules.{rules}
 use Rattle.progressive.proofs.Entries.{support_settled}
 use Rattle.progressive.proofs.entry.has_supported_progressive_form.Goals as goal
 

@@ -1,9 +1,8 @@
 -- `entry::lemma` meets its contract: the part of the sheet that the given places cut out. Assumes nothing.
-use mathlib.Core.Path.{◌≡◌, sym, subst}
+use mathlib.Core.Path.{sym, subst}
 use Prim.Native.Nat.{◌+◌, ◌≤◌}
 use native.Mathlib.Omega.{arith}
 use lib.ListN.{length}
-use borrow.Author.Rules.{rules}
 use Rattle.progressive.specs.declared.find.Progressive.{Progressive}
 use Rattle.progressive.proofs.Entries.{given_inside, part-given}
 use Rattle.progressive.proofs.entry.lemma.Goals as goal

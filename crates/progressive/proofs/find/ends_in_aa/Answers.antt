@@ -1,5 +1,4 @@
 -- `find::ends_in_aa` meets its contract: one of the two ends. Assumes nothing.
-use borrow.Author.Rules.{rules}
 use mathlib.Core.Path.{sym, ◌∙◌}
 use Rattle.progressive.proofs.find.ends_in_aa.Goals as goal
 

@@ -1,5 +1,4 @@
 -- `find::ends_in_rahek` meets its contract: one of the three ends. Assumes nothing.
-use borrow.Author.Rules.{rules}
 use mathlib.Core.Path.{sym, ◌∙◌}
 use Rattle.progressive.proofs.Shapes.{one_of, two_of, three_of}
 use Rattle.progressive.proofs.find.ends_in_rahek.Goals as goal

@@ -1,16 +1,15 @@
 -- `find::find_progressive` meets its contract: the shape, the auxiliary, the search, and the search without the न. Assumes nothing.
-use mathlib.Core.Path.{◌≡◌, sym, ap, ◌∙◌, subst}
+use mathlib.Core.Path.{◌≡◌, sym, ◌∙◌, subst}
 use mathlib.Core.Bool.{true}
-use mathlib.Core.List.{List, append-nil}
+use mathlib.Core.List.{List}
 use Prim.Native.Nat.{ℕ, ◌≤◌, ◌-◌}
 use native.Mathlib.Omega.{arith}
 use lib.ListN.{length, take, drop, length-take}
 use lib.Seq.{length-take-le}
-use borrow.Author.Rules.{rules}
 use borrow.Author.Tests.{not-true, not-false}
 use Rattle.runs.specs.Runs.{begins_with}
 use Rattle.sheet.specs.Replies.{reply}
-use Rattle.progressive.specs.Progressive.{letter_na, is_verb, lemma_of, linked_of, stem_of, searched, is_shaped, progressive_of}
+use Rattle.progressive.specs.Progressive.{letter_na, lemma_of, linked_of, stem_of, searched, is_shaped, progressive_of}
 use Rattle.progressive.specs.Found.{LemmaAt}
 use Rattle.progressive.proofs.Shapes.{shaped_fits, na_fits, front_rest}
 use Rattle.progressive.proofs.Forms.{again, not_shaped, no_auxiliary, is_searched, none-form, first_found, goes_again, no_na, second_none, second_found}

@@ -1,5 +1,4 @@
 -- `find::has_supported_progressive_form` meets its contract: a form is found where there is one. Assumes nothing.
-use borrow.Author.Rules.{rules}
 use Rattle.progressive.proofs.Forms.{found-form}
 use Rattle.progressive.proofs.find.has_supported_progressive_form.Goals as goal
 

@@ -1,12 +1,8 @@
 -- `find::is_shaped` meets its contract: one of the three ends, and one of the two before it. Assumes nothing.
 use mathlib.Core.Path.{◌≡◌, sym, ◌∙◌}
 use mathlib.Core.Bool.{true}
-use Prim.Native.Nat.{◌≤◌, ◌-◌}
 use native.Mathlib.Omega.{arith}
-use lib.ListN.{length, take}
 use lib.Seq.{length-take-le}
-use borrow.Author.Rules.{rules}
-use borrow.Author.Tests.{not-true, not-false}
 use Rattle.progressive.specs.Found.{ends_in_rahek}
 use Rattle.progressive.proofs.Shapes.{rahek-fits, unshaped, shaped_by, first_of, second_of}
 use Rattle.progressive.proofs.find.is_shaped.Goals as goal

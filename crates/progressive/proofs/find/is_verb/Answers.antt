@@ -1,6 +1,5 @@
 -- `find::is_verb` meets its contract: the letters that the sheet gives the name. Assumes nothing.
 use mathlib.Core.Path.{ap}
-use borrow.Author.Rules.{rules}
 use Rattle.sheet.specs.declared.letters.Letters.{Letters}
 use Rattle.sheet.specs.Replies.{letters_for}
 use Rattle.progressive.proofs.find.is_verb.Goals as goal

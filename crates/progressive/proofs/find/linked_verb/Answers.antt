@@ -1,6 +1,5 @@
 -- `find::linked_verb` meets its contract: no line names no verb, and the infinitive of a line is asked alone. Assumes nothing.
 use mathlib.Core.Path.{subst}
-use borrow.Author.Rules.{rules}
 use borrow.Author.Tests.{not-true, not-false}
 use Rattle.progressive.specs.Progressive.{Lemma}
 use Rattle.progressive.specs.Found.{LemmaAt}

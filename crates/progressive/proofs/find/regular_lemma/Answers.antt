@@ -1,8 +1,6 @@
 -- `find::regular_lemma` meets its contract: the names are asked in their order, and the first verb is given. Assumes nothing.
 use mathlib.Core.Path.{◌≡◌, sym, ◌∙◌, subst}
 use mathlib.Core.List.{◌++◌}
-use borrow.Author.Rules.{rules}
-use borrow.Author.Tests.{not-true, not-false}
 use Rattle.progressive.specs.Progressive.{letter_u, Lemma, verb_or, regular}
 use Rattle.sheet.specs.Forms.{syllable_nu}
 use Rattle.sheet.specs.Replies.{reply}

@@ -1,7 +1,6 @@
 -- `find::supported_infinitive` meets its contract: an empty stem and one that ends in ् have none, a link line decides alone. Assumes nothing.
 use mathlib.Core.Path.{◌≡◌, sym, ◌∙◌, subst}
 use mathlib.Core.Bool.{false}
-use borrow.Author.Rules.{rules}
 use Rattle.runs.specs.Runs.{ends_in}
 use Rattle.sheet.specs.Replies.{reply}
 use Rattle.lookup.specs.Answers.{text_at}

@@ -1,8 +1,6 @@
 -- `find::verb_at` meets its contract: a verb has a line, which holds its name. Assumes nothing.
 use mathlib.Core.Path.{sym, ◌∙◌}
 use mathlib.Core.List.{◌++◌}
-use borrow.Author.Rules.{rules}
-use borrow.Author.Tests.{not-true, not-false}
 use Rattle.progressive.proofs.Verbs.{not-verb, verb-named}
 use Rattle.progressive.proofs.find.verb_at.Goals as goal
 

@@ -1,10 +1,7 @@
 -- `entry::codes_in` meets its contract: the codes found are copied where there is room. Assumes nothing.
-use Prim.Native.Nat.{ℕ}
-use mathlib.Core.List.{List}
 use mathlib.Core.Path.{refl, sym}
 use lib.Seq.{length-take-le}
 use Rattle.referred.proofs.Answered.{part_room, short, inside, fits}
-use borrow.Author.Rules.{rules}
 use Rattle.referred.proofs.entry.codes_in.Goals as goal
 
 pub returns-then-out-n : goal.returns-then-out-n

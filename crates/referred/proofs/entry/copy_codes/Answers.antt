@@ -1,9 +1,6 @@
 -- `entry::copy_codes` meets its contract: what is copied and what is to come are all of it. Assumes nothing.
-use Prim.Native.Nat.{◌-◌, ◌≤◌}
 use native.Mathlib.Omega.{arith}
-use mathlib.Core.Path.{◌≡◌, refl}
-use mathlib.Core.List.{◌++◌}
-use lib.ListN.{length, take, drop}
+use mathlib.Core.Path.{refl}
 use Rattle.referred.proofs.Kept.{copied_more, copied_all}
 use Rattle.referred.proofs.entry.copy_codes.Goals as goal
 

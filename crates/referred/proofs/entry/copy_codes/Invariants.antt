@@ -1,10 +1,8 @@
 -- `entry::copy_codes` meets its contract: what is copied and what is to come are all of it. Assumes nothing.
 use Prim.Native.Nat.{◌-◌, ◌≤◌}
-use native.Mathlib.Omega.{arith}
-use mathlib.Core.Path.{◌≡◌, refl}
+use mathlib.Core.Path.{◌≡◌}
 use mathlib.Core.List.{◌++◌}
 use lib.ListN.{length, take, drop}
-use Rattle.referred.proofs.Kept.{copied_more, copied_all}
 use Rattle.referred.proofs.entry.copy_codes.Given as goal
 
 abbrev pub invariant-loop-i : goal.invariant-loop-i

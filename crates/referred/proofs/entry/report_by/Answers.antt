@@ -6,7 +6,6 @@ use mathlib.Core.Path.{sym}
 use lib.Seq.{length-take-le}
 use Rattle.lookup.proofs.Readied.{indexed}
 use Rattle.referred.proofs.Answered.{part_room, report_refused, report_given}
-use borrow.Author.Rules.{rules}
 use Rattle.referred.proofs.entry.report_by.Goals as goal
 
 pub slice_bounds-report_in-end : goal.slice_bounds-report_in-end

@@ -1,13 +1,10 @@
 -- `entry::report_in` meets its contract: the report written from codes is that of the findings. Assumes nothing.
-use Prim.Native.Nat.{ℕ}
-use mathlib.Core.List.{List}
 use mathlib.Core.Path.{sym, ap, subst, ◌∙◌}
 use lib.Seq.{length-take-le}
 use Rattle.writing.proofs.Wholes.{answer_as}
 use Rattle.referred.specs.Coded.{FormsAt, coded_text}
 use Rattle.referred.proofs.Found.{forms-coded, text-coded}
 use Rattle.referred.proofs.Answered.{inside, front}
-use borrow.Author.Rules.{rules}
 use Rattle.referred.proofs.entry.report_in.Goals as goal
 
 pub slice_bounds-write_report-end : goal.slice_bounds-write_report-end

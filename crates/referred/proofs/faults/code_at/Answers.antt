@@ -5,7 +5,6 @@ use Rattle.lookup.proofs.Settled.{indexed-form}
 use Rattle.referred.specs.Report.{fault_at}
 use Rattle.referred.specs.Codes.{code_for}
 use Rattle.referred.proofs.Refers.{start_small}
-use borrow.Author.Rules.{rules}
 use Rattle.referred.proofs.faults.code_at.Goals as goal
 
 pub line_fault-requires : goal.line_fault-requires

@@ -1,7 +1,6 @@
 -- `faults::code_of` meets its contract, fault by fault. Assumes nothing.
 use mathlib.Core.Path.{sym, ap}
 use Rattle.referred.specs.Codes.{code_for}
-use borrow.Author.Rules.{rules}
 use Rattle.referred.proofs.faults.code_of.Goals as goal
 
 pub returns-in-Missing : goal.returns-in-Missing

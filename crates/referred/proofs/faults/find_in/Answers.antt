@@ -1,13 +1,12 @@
 -- `faults::find_in` meets its contract: the codes kept so far and those of the lines to come are all of them. Assumes nothing.
-use Prim.Native.Nat.{ℕ, ◌-◌}
+use Prim.Native.Nat.{ℕ}
 use native.Mathlib.Omega.{arith}
 use mathlib.Core.Path.{◌≡◌, subst}
 use mathlib.Core.List.{List, ◌++◌}
 use lib.ListN.{length, drop}
-use borrow.Author.Rules.{rules}
 use Rattle.referred.specs.Report.{findings_at}
 use Rattle.referred.specs.Codes.{codes_of}
-use Rattle.referred.proofs.Kept.{Kept, kept-none, kept_more, kept-all}
+use Rattle.referred.proofs.Kept.{kept-none, kept_more, kept-all}
 use Rattle.referred.proofs.faults.find_in.Goals as goal
 
 pub loop-i-init : goal.loop-i-init

@@ -1,6 +1,5 @@
 -- `faults::keep` meets its contract. Assumes nothing.
 use borrow.Author.Tests.{eq-eqb, ne_eqb}
-use borrow.Author.Rules.{rules}
 use Rattle.referred.proofs.faults.keep.Goals as goal
 
 pub returns-then-code-eq0 : goal.returns-then-code-eq0

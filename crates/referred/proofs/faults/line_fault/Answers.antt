@@ -2,7 +2,6 @@
 use native.Mathlib.Omega.{arith}
 use mathlib.Core.Path.{sym, ◌∙◌}
 use Rattle.referred.proofs.Refers.{letter-there, value-inside, link-fault, kind-fault, no-fault}
-use borrow.Author.Rules.{rules}
 use Rattle.referred.proofs.faults.line_fault.Goals as goal
 
 pub overflow_add-letter : goal.overflow_add-letter

@@ -1,13 +1,8 @@
 -- `faults::names_any` meets its contract: no text so far is named, so that one of those to come decides. Assumes nothing.
-use Prim.Native.Nat.{◌-◌, ◌≤◌}
 use native.Mathlib.Omega.{arith}
-use mathlib.Core.Path.{◌≡◌, refl, sym, ◌∙◌}
-use lib.ListN.{drop}
-use Rattle.sheet.specs.Forms.{key}
-use Rattle.sheet.specs.Lines.{line_at}
+use mathlib.Core.Path.{refl, sym, ◌∙◌}
 use Rattle.tables.specs.Tables.{affixes}
 use Rattle.tables.proofs.Facts.{affix_count}
-use Rattle.referred.specs.Report.{is_text}
 use Rattle.referred.proofs.Found.{text-found, text_next, text-none}
 use Rattle.referred.proofs.faults.names_any.Goals as goal
 

@@ -5,7 +5,6 @@ use Rattle.sheet.specs.Lines.{line_at}
 use Rattle.tables.proofs.Laid.{laid-asks}
 use Rattle.referred.proofs.Refers.{named-told}
 use Rattle.tables.proofs.Facts.{affix_count}
-use borrow.Author.Rules.{rules}
 use Rattle.referred.proofs.faults.names_text.Goals as goal
 
 pub row-requires : goal.row-requires

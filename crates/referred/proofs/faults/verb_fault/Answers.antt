@@ -5,7 +5,6 @@ use Rattle.lookup.specs.Answers.{ValueOf}
 use Rattle.lookup.proofs.Parts.{one-part, unread}
 use Rattle.referred.specs.Report.{verb_fault}
 use Rattle.referred.proofs.Refers.{verb_read}
-use borrow.Author.Rules.{rules}
 use Rattle.referred.proofs.faults.verb_fault.Goals as goal
 use Rattle.referred.proofs.faults.verb_fault.Goals.{After-value_of-v}
 

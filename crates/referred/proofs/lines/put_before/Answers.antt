@@ -1,5 +1,4 @@
 -- `lines::put_before` meets its contract, fault by fault. Assumes nothing.
-use borrow.Author.Rules.{rules}
 use Rattle.referred.proofs.lines.put_before.Goals as goal
 
 pub returns-in-Sound : goal.returns-in-Sound

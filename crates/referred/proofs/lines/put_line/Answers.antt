@@ -4,7 +4,6 @@ use Rattle.referred.proofs.Refers.{name-inside}
 use Rattle.referred.proofs.Found.{coded-line}
 use Prim.Native.Nat.{◌/◌}
 use native.Mathlib.Omega.{arith}
-use borrow.Author.Rules.{rules}
 use Rattle.referred.proofs.lines.put_line.Goals as goal
 
 pub slice_bounds-put-end : goal.slice_bounds-put-end

@@ -1,9 +1,6 @@
 -- `lines::put_lines` meets its contract: the lines put so far and those to come are all of them. Assumes nothing.
-use Prim.Native.Nat.{◌-◌, ◌≤◌}
 use native.Mathlib.Omega.{arith}
-use lib.ListN.{length, drop}
-use Rattle.writing.proofs.Puts.{Upto, upto-none, upto-more, upto_all}
-use Rattle.referred.specs.Coded.{code_lines}
+use Rattle.writing.proofs.Puts.{upto-none, upto-more, upto_all}
 use Rattle.referred.proofs.Found.{form-there, lines_turn, lines_end}
 use Rattle.referred.proofs.lines.put_lines.Goals as goal
 

@@ -1,10 +1,8 @@
 -- `lines::put_lines` meets its contract: the lines put so far and those to come are all of them. Assumes nothing.
 use Prim.Native.Nat.{◌-◌, ◌≤◌}
-use native.Mathlib.Omega.{arith}
 use lib.ListN.{length, drop}
-use Rattle.writing.proofs.Puts.{Upto, upto-none, upto-more, upto_all}
+use Rattle.writing.proofs.Puts.{Upto}
 use Rattle.referred.specs.Coded.{code_lines}
-use Rattle.referred.proofs.Found.{form-there, lines_turn, lines_end}
 use Rattle.referred.proofs.lines.put_lines.Given as goal
 
 abbrev pub invariant-loop-i : goal.invariant-loop-i

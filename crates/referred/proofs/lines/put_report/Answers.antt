@@ -1,7 +1,6 @@
 -- `lines::put_report` meets its contract: four texts, one after the other. Assumes nothing.
 use Rattle.writing.proofs.Puts.{put_both}
 use Rattle.referred.specs.Coded.{coded_text}
-use borrow.Author.Rules.{rules}
 use Rattle.referred.proofs.lines.put_report.Goals as goal
 
 pub returns : goal.returns

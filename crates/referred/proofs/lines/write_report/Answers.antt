@@ -1,7 +1,6 @@
 -- `lines::write_report` meets its contract: the first call tells the length, the second writes. Assumes nothing.
 use native.Mathlib.Omega.{arith}
 use Rattle.writing.proofs.Puts.{written-whole, written-not}
-use borrow.Author.Rules.{rules}
 use Rattle.referred.proofs.lines.write_report.Goals as goal
 
 pub returns-then-out-size : goal.returns-then-out-size

@@ -2,7 +2,6 @@
 use native.Mathlib.Omega.{arith}
 use mathlib.Core.Path.{sym, ◌∙◌}
 use Rattle.referred.proofs.Prints.{reported, refused, never}
-use borrow.Author.Rules.{rules}
 use Rattle.referred.proofs.whole.answer_of.Goals as goal
 
 pub returns-in-Wrote : goal.returns-in-Wrote

@@ -1,11 +1,6 @@
 -- `entry::put_both` meets its contract: what is put so far and what is to come are all of it. Assumes nothing.
-use Prim.Native.Nat.{◌-◌, ◌≤◌}
 use native.Mathlib.Omega.{arith}
-use lib.ListN.{length}
-use Rattle.sheet.specs.Walks.{Standing}
-use Rattle.writing.proofs.Puts.{Upto, upto-none, upto-more, upto_all}
-use Rattle.rescued.specs.Stretches.{kept_of, report_of, kept_over, report_over}
-use Rattle.rescued.specs.Places.{ahead}
+use Rattle.writing.proofs.Puts.{upto-none, upto-more, upto_all}
 use Rattle.rescued.proofs.Stretched.{kept_turn, report_turn, kept-end, report_end}
 use Rattle.rescued.proofs.entry.put_both.Goals as goal
 

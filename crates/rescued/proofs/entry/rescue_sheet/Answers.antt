@@ -4,7 +4,6 @@ use native.Mathlib.Omega.{arith}
 use lib.ListN.{length}
 use Rattle.writing.specs.Placed.{largest}
 use Rattle.rescued.proofs.Answered.{long, short-kept, short_report, both}
-use borrow.Author.Rules.{rules}
 use Rattle.rescued.proofs.entry.rescue_sheet.Goals as goal
 use Rattle.rescued.proofs.entry.rescue_sheet.Goals.{Else-sheet-gt-SHEET_BYTES}
 

@@ -2,7 +2,6 @@
 use native.Mathlib.Omega.{arith}
 use Rattle.rescued.proofs.Parting.{put_whole}
 use Rattle.rescued.proofs.Promises.{kept-size}
-use borrow.Author.Rules.{rules}
 use Rattle.rescued.proofs.part.kept_of.Goals as goal
 
 pub returns : goal.returns

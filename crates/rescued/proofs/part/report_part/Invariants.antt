@@ -1,9 +1,7 @@
 -- `part::report_part` meets its contract: what is put so far and what is to come are all of it. Assumes nothing.
 use Prim.Native.Nat.{◌-◌}
-use native.Mathlib.Omega.{arith}
 use lib.ListN.{length}
-use Rattle.writing.proofs.Puts.{upto-none}
-use Rattle.rescued.proofs.Parting.{Part-way, way_more, way_full, way_all}
+use Rattle.rescued.proofs.Parting.{Part-way}
 use Rattle.rescued.proofs.part.report_part.Given as goal
 
 abbrev pub invariant-loop-walk : goal.invariant-loop-walk

@@ -1,6 +1,5 @@
 -- `walk::line_end` meets its contract: behind the first 0A, or the end. Assumes nothing.
 use Rattle.rescued.proofs.Stretched.{end-behind, end-last}
-use borrow.Author.Rules.{rules}
 use Rattle.rescued.proofs.walk.line_end.Goals as goal
 
 pub returns-then-feed-s : goal.returns-then-feed-s

@@ -1,6 +1,5 @@
 -- `walk::next_stretch` meets its contract, by what the step reaches. Assumes nothing.
 use Rattle.rescued.proofs.Stretched.{at_end, at_no_form, at_not_above, at_form}
-use borrow.Author.Rules.{rules}
 use Rattle.rescued.proofs.walk.next_stretch.Goals as goal
 
 pub returns-in-End : goal.returns-in-End

@@ -1,7 +1,6 @@
 -- `walk::put_cut` meets its contract, fate by fate. Assumes nothing.
 use Rattle.writing.proofs.Puts.{put_both}
 use Rattle.rescued.specs.Stretches.{cut_line}
-use borrow.Author.Rules.{rules}
 use Rattle.rescued.proofs.walk.put_cut.Goals as goal
 
 pub returns-in-Kept : goal.returns-in-Kept

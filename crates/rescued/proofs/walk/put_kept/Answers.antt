@@ -1,5 +1,4 @@
 -- `walk::put_kept` meets its contract, fate by fate. Assumes nothing.
-use borrow.Author.Rules.{rules}
 use Rattle.rescued.proofs.walk.put_kept.Goals as goal
 
 pub returns-in-Kept : goal.returns-in-Kept

@@ -1,13 +1,7 @@
 -- `check::check_sheet` meets its contract: all lines are judged as those from the walk's place on. Assumes nothing.
-use Prim.Native.Nat.{ℕ, ◌-◌, ◌≤◌}
 use native.Mathlib.Omega.{arith}
-use borrow.Author.Rules.{rules}
-use mathlib.Core.Path.{◌≡◌, refl, sym, ◌∙◌}
-use mathlib.Core.List.{List}
-use lib.ListN.{length}
-use Rattle.sheet.specs.Lines.{sheet_check}
-use Rattle.sheet.specs.Walks.{Standing}
-use Rattle.sheet.proofs.Walks.{Formed, judged_ahead, turn, check_long, check_walk}
+use mathlib.Core.Path.{sym, ◌∙◌}
+use Rattle.sheet.proofs.Walks.{Formed, turn, check_long, check_walk}
 use Rattle.sheet.proofs.check.check_sheet.Goals as goal
 use Rattle.sheet.proofs.check.check_sheet.Goals.{In-Form}
 

@@ -1,13 +1,10 @@
 -- `check::check_sheet` meets its contract: all lines are judged as those from the walk's place on. Assumes nothing.
-use Prim.Native.Nat.{ℕ, ◌-◌, ◌≤◌}
-use native.Mathlib.Omega.{arith}
-use borrow.Author.Rules.{rules}
-use mathlib.Core.Path.{◌≡◌, refl, sym, ◌∙◌}
-use mathlib.Core.List.{List}
+use Prim.Native.Nat.{◌-◌, ◌≤◌}
+use mathlib.Core.Path.{◌≡◌}
 use lib.ListN.{length}
 use Rattle.sheet.specs.Lines.{sheet_check}
 use Rattle.sheet.specs.Walks.{Standing}
-use Rattle.sheet.proofs.Walks.{Formed, judged_ahead, turn, check_long, check_walk}
+use Rattle.sheet.proofs.Walks.{judged_ahead}
 use Rattle.sheet.proofs.check.check_sheet.Given as goal
 
 abbrev pub invariant-loop-next : goal.invariant-loop-next

@@ -1,13 +1,9 @@
 -- `keys::along` meets its contract: what is left of the name stands to what is left of the head as the name does to the head.
 -- Assumes nothing.
-use mathlib.Core.Path.{◌≡◌, refl, sym, ◌∙◌}
+use mathlib.Core.Path.{◌≡◌}
 use Prim.Native.Nat.{◌-◌, ◌≤◌}
-use native.Mathlib.Nat.{le_antisymm}
-use native.Mathlib.Numerals.{add-one}
-use native.Mathlib.Omega.{arith}
 use lib.ListN.{length, drop}
 use Rattle.sheet.specs.Keys.{spaced, headed}
-use Rattle.sheet.proofs.Spaced.{spaced-past, spaced-none, spaced-cons, head_ended, head_less, head_greater, head_same, head_all}
 use Rattle.sheet.proofs.keys.along.Given as goal
 
 abbrev pub invariant-loop-i : goal.invariant-loop-i

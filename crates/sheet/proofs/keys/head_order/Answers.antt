@@ -7,7 +7,6 @@ use native.Mathlib.Nat.{le_antisymm}
 use native.Mathlib.Omega.{arith}
 use lib.ListN.{length, drop, length-drop}
 use lib.Seq.{take_all}
-use borrow.Author.Rules.{rules}
 use Rattle.sheet.specs.Keys.{spaced, headed}
 use Rattle.sheet.proofs.Forms.{line-fits, line-letter}
 use Rattle.sheet.proofs.Spaced.{head_line_less, head_line_greater, head_line_same}

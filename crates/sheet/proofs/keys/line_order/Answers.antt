@@ -7,7 +7,6 @@ use native.Mathlib.Nat.{le_antisymm}
 use native.Mathlib.Omega.{arith}
 use lib.ListN.{length, drop, length-drop}
 use lib.Seq.{take_all}
-use borrow.Author.Rules.{rules}
 use Rattle.runs.specs.Runs.{cmp}
 use Rattle.sheet.specs.Keys.{spaced}
 use Rattle.sheet.proofs.Forms.{line-fits, line-letter}

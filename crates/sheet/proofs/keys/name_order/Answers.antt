@@ -2,7 +2,6 @@
 -- Assumes nothing.
 use native.Mathlib.Omega.{arith}
 use lib.ListN.{length}
-use borrow.Author.Rules.{rules}
 use Rattle.sheet.proofs.Spaced.{spaced-past, spaced-none, spaced-cons, name_decides, name-leaves}
 use Rattle.sheet.proofs.keys.name_order.Goals as goal
 

@@ -5,7 +5,6 @@ use Prim.Native.Nat.{ℕ, ◌+◌, ◌-◌, ◌≤◌}
 use native.Mathlib.Omega.{arith}
 use lib.ListN.{length, take, drop, length-drop}
 use lib.Seq.{take_all}
-use borrow.Author.Rules.{rules}
 use Rattle.runs.specs.Runs.{cmp}
 use Rattle.runs.specs.declared.Order.TheVariants.{Equal}
 use Rattle.sheet.specs.Keys.{spaced, headed}

@@ -1,7 +1,6 @@
 -- `keys::parts_order` meets its contract: what the first part leaves open the second decides.
 -- Assumes nothing.
 use mathlib.Core.Path.{sym, ◌∙◌}
-use borrow.Author.Rules.{rules}
 use Rattle.sheet.proofs.Spaced.{first_decides}
 use Rattle.sheet.proofs.keys.parts_order.Goals as goal
 

@@ -1,5 +1,4 @@
 -- `sheet::line::head_at` meets its contract: the heads in their order. Assumes nothing.
-use borrow.Author.Rules.{rules}
 use mathlib.Core.Path.{sym, ◌∙◌}
 use Rattle.sheet.specs.Steps.{head_of}
 use Rattle.sheet.proofs.line.head_at.Goals as goal

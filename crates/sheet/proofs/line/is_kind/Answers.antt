@@ -1,5 +1,4 @@
 -- `sheet::line::is_kind` meets its contract: one of the two texts. Assumes nothing.
-use borrow.Author.Rules.{rules}
 use mathlib.Core.Path.{sym, ◌∙◌}
 use Rattle.sheet.specs.Forms.{is_kind}
 use Rattle.sheet.proofs.line.is_kind.Goals as goal

@@ -1,5 +1,4 @@
 -- `sheet::line::is_link` meets its contract: one of the two ends. Assumes nothing.
-use borrow.Author.Rules.{rules}
 use mathlib.Core.Path.{sym, ◌∙◌}
 use Rattle.sheet.proofs.line.is_link.Goals as goal
 

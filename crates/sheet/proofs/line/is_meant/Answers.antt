@@ -1,6 +1,5 @@
 -- `sheet::line::is_meant` meets its contract, letter by letter. Assumes nothing.
-use borrow.Author.Rules.{rules}
-use borrow.Author.Tests.{eq-eqb, ne_eqb, not-true, not-false}
+use borrow.Author.Tests.{eq-eqb, ne_eqb}
 use mathlib.Core.Path.{sym, ◌∙◌}
 use mathlib.Core.Bool.{and-false}
 use Rattle.sheet.specs.Forms.{is_meant}

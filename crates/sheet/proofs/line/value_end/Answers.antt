@@ -1,9 +1,9 @@
 -- `line::value_end` meets its contract: the value ends at the first closing parenthesis. Assumes nothing.
-use mathlib.Core.Path.{◌≡◌, ap, ◌∙◌}
+use mathlib.Core.Path.{ap, ◌∙◌}
 use mathlib.Core.List.{List}
 use Prim.Native.Nat.{ℕ, ◌+◌}
 use native.Mathlib.Omega.{arith}
-use lib.ListN.{length, take, drop}
+use lib.ListN.{drop}
 use lib.Seq.{take-length}
 use Rattle.runs.specs.Bytes.{index_of, slice}
 use Rattle.sheet.proofs.Forms.{line-fits, value-ends}

@@ -1,7 +1,6 @@
 -- `sheet::name::is_name` meets its contract, test by test. Assumes nothing.
 use native.Mathlib.Omega.{arith}
 use borrow.Author.Tests.{lt-ltb, le-ltb, le-leb, lt-leb}
-use mathlib.Core.Path.{◌∙◌, sym}
 use mathlib.Core.Bool.{and-true}
 use lib.ListN.{length}
 use Rattle.sheet.specs.Limits.{name_limit}

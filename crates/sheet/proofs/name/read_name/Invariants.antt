@@ -1,14 +1,12 @@
 -- `sheet::name::read_name` meets its contract: what is read of the name's bytes, and those to come, are all of them. Assumes nothing.
 use Prim.Native.Nat.{◌+◌, ◌-◌, ◌≤◌}
-use native.Mathlib.Omega.{arith}
-use mathlib.Core.Path.{◌≡◌, refl, sym, ap, ◌∙◌}
+use mathlib.Core.Path.{◌≡◌}
 use mathlib.Core.List.{[]}
 use lib.ListN.{length, drop}
 use Rattle.text.specs.Utf8.{owes, run}
 use Rattle.text.specs.Owes.{owed_of}
 use Rattle.text.specs.Names.{name_run}
 use Rattle.sheet.specs.Forms.{front}
-use Rattle.sheet.proofs.Fronts.{stops_here, stops_end, goes_on_lem, owed_on, read_done}
 use Rattle.sheet.proofs.name.read_name.Given as goal
 
 abbrev pub invariant-loop-i : goal.invariant-loop-i

@@ -1,10 +1,8 @@
 -- `sheet::name::run_end` meets its contract: from i on the run ends where it ends from `from` on. Assumes nothing.
 use Prim.Native.Nat.{◌+◌, ◌-◌, ◌≤◌}
-use native.Mathlib.Omega.{arith}
-use mathlib.Core.Path.{◌≡◌, refl, sym, ◌∙◌}
+use mathlib.Core.Path.{◌≡◌}
 use lib.ListN.{length, drop}
 use Rattle.text.specs.Names.{name_run}
-use Rattle.sheet.proofs.Fronts.{stops_here, stops_end, goes_on_lem}
 use Rattle.sheet.proofs.name.run_end.Given as goal
 
 abbrev pub invariant-loop-i : goal.invariant-loop-i

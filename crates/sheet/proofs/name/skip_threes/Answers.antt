@@ -1,8 +1,6 @@
 -- `sheet::name::skip_threes` meets its contract: what has been passed are whole characters of the name. Assumes nothing.
-use Prim.Native.Nat.{◌-◌}
 use native.Mathlib.Omega.{arith}
-use lib.ListN.{length}
-use Rattle.sheet.specs.Passing.{Three, Passed}
+use Rattle.sheet.specs.Passing.{Three}
 use Rattle.sheet.proofs.Fronts.{passed_none, passed_on}
 use Rattle.sheet.proofs.name.skip_threes.Goals as goal
 use Rattle.sheet.proofs.name.skip_threes.Goals.{In-loop-i}

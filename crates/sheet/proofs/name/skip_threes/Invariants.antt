@@ -1,9 +1,7 @@
 -- `sheet::name::skip_threes` meets its contract: what has been passed are whole characters of the name. Assumes nothing.
 use Prim.Native.Nat.{◌-◌}
-use native.Mathlib.Omega.{arith}
 use lib.ListN.{length}
-use Rattle.sheet.specs.Passing.{Three, Passed}
-use Rattle.sheet.proofs.Fronts.{passed_none, passed_on}
+use Rattle.sheet.specs.Passing.{Passed}
 use Rattle.sheet.proofs.name.skip_threes.Given as goal
 
 abbrev pub invariant-loop-i : goal.invariant-loop-i

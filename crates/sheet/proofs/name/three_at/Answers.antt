@@ -1,7 +1,6 @@
 -- `sheet::name::three_at` meets its contract: it says yes only where each byte was tested. Assumes nothing.
 use Prim.Native.Nat.{ℕ}
 use native.Mathlib.Omega.{arith}
-use borrow.Author.Rules.{rules}
 use borrow.Author.Tests.{leb-true}
 use mathlib.Core.Path.{◌≡◌}
 use mathlib.Core.Bool.{true, false}

@@ -1,13 +1,9 @@
 -- `walk::is_above` meets its contract: nothing stands below every key, and the last line is compared as a question's is. Assumes nothing.
 use mathlib.Core.Path.{◌≡◌, sym, ap, subst, ◌∙◌}
-use mathlib.Core.Bool.{true}
-use mathlib.Core.List.{List, ◌++◌, append-nil}
+use mathlib.Core.List.{List, append-nil}
 use Prim.Native.Nat.{ℕ}
-use lib.ListN.{drop}
-use borrow.Author.Rules.{rules}
 use Rattle.runs.specs.Runs.{cmp, is_less}
-use Rattle.runs.specs.declared.Order.{Order}
-use Rattle.sheet.specs.Forms.{is_form, key_of}
+use Rattle.sheet.specs.Forms.{key_of}
 use Rattle.sheet.specs.Walks.{key_before, Standing}
 use Rattle.sheet.specs.declared.walk.Before.{Before}
 use Rattle.sheet.proofs.walk.is_above.Goals as goal

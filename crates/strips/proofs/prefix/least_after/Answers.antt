@@ -3,7 +3,6 @@ use mathlib.Core.Path.{sym, ◌∙◌}
 use borrow.Author.Tests.{eq-eqb, ne_eqb}
 use Rattle.text.specs.Characters.{chars}
 use Rattle.strips.specs.Prefix.{least_after}
-use borrow.Author.Rules.{rules}
 use Rattle.strips.proofs.prefix.least_after.Goals as goal
 
 pub returns-then-count-eq1 : goal.returns-then-count-eq1

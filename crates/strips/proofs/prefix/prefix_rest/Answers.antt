@@ -1,13 +1,10 @@
 -- `strips::prefix::prefix_rest` meets its contract: a piece that begins with the form is as long, and what follows is counted.
 -- Assumes nothing.
 use mathlib.Core.Path.{◌≡◌, ap, sym, ◌∙◌}
-use Prim.Native.Nat.{◌-◌}
 use lib.ListN.{length, drop}
-use borrow.Author.Tests.{not-true, not-false}
 use Rattle.text.specs.Characters.{chars}
 use Rattle.strips.specs.Prefix.{rest_of}
 use Rattle.strips.proofs.Returns.{begins-length, rest_lent, leaves_other, leaves-few, leaves_true}
-use borrow.Author.Rules.{rules}
 use Rattle.strips.proofs.prefix.prefix_rest.Goals as goal
 use Rattle.strips.proofs.prefix.prefix_rest.Goals.{After-least_after-least}
 

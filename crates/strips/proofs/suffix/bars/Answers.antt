@@ -1,8 +1,6 @@
 -- `strips::suffix::bars` meets its contract: the tests stand in the definition's order. Assumes nothing.
 use mathlib.Core.Path.{sym, ◌∙◌}
-use borrow.Author.Tests.{not-true, not-false}
 use Rattle.strips.proofs.Returns.{keeps_no_pronoun, keeps_spelled, keeps_first, keeps_second}
-use borrow.Author.Rules.{rules}
 use Rattle.strips.proofs.suffix.bars.Goals as goal
 
 pub returns-then-not-pronoun : goal.returns-then-not-pronoun

@@ -1,12 +1,9 @@
 -- `strips::suffix::first_char_len` meets its contract. The loop's invariant: the first character has the bytes passed and those that
 -- go on from here. The measure is what is left of the text. Assumes nothing.
 use Prim.Native.Nat.{◌+◌, ◌-◌, ◌≤◌}
-use mathlib.Core.Path.{◌≡◌, sym, ◌∙◌}
-use native.Mathlib.Omega.{arith}
-use borrow.Author.Rules.{rules}
+use mathlib.Core.Path.{◌≡◌}
 use lib.ListN.{length, drop}
 use Rattle.strips.specs.Suffix.{first_length, goes_on}
-use Rattle.strips.proofs.Returns.{first-none, first-begins, goes_stop, goes_next, goes_end}
 use Rattle.strips.proofs.suffix.first_char_len.Given as goal
 
 abbrev pub invariant-loop-i : goal.invariant-loop-i

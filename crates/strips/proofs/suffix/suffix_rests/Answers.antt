@@ -1,10 +1,8 @@
 -- `strips::suffix::suffix_rests` meets its contract: the tests stand in the definition's order. Assumes nothing.
 use mathlib.Core.Path.{sym, ◌∙◌}
 use native.Mathlib.Omega.{arith}
-use borrow.Author.Tests.{not-true, not-false}
 use Rattle.strips.specs.Suffix.{rests_of}
 use Rattle.strips.proofs.Returns.{sheds-short, sheds_other, sheds_true, long_false, long_true}
-use borrow.Author.Rules.{rules}
 use Rattle.strips.proofs.suffix.suffix_rests.Goals as goal
 
 pub returns-then-n-m : goal.returns-then-n-m

@@ -1,21 +1,12 @@
 -- `tables::origins::lookup_origin` meets its contract. The loop's invariant: every row before `low` is below the word, every row from
 -- `high` on is above it. The rows ascend, so the order of the middle row and the word settles one side. Assumes nothing.
-use Prim.Native.Nat.{ℕ, ◌≤◌, ◌<◌, ◌+◌, ◌-◌, ◌/◌}
-use mathlib.Core.Path.{◌≡◌, ap, sym, ◌∙◌}
-use mathlib.Core.List.{List, []}
-use native.Mathlib.Nat.{not-suc-le-zero}
-use native.Mathlib.Omega.{arith}
-use borrow.Author.Rules.{rules}
-use lib.ListN.{length, get_or, length-map}
+use Prim.Native.Nat.{ℕ, ◌≤◌, ◌<◌, ◌-◌}
+use mathlib.Core.Path.{◌≡◌}
+use mathlib.Core.List.{[]}
+use lib.ListN.{get_or}
 use Rattle.runs.specs.Runs.{cmp}
 use Rattle.runs.specs.declared.Order.TheVariants.{Less, Greater}
-use Rattle.tables.specs.Rows.{origin_words, origin_tags}
-use Rattle.tables.specs.Origins.{letter_of, tagged_by, origin_of}
-use Rattle.tables.specs.declared.origins.OriginFound.TheVariants.{Listed}
-use Rattle.runs.proofs.Ordered.{same_cmp, is_equal}
-use Rattle.tables.proofs.Laid.{laid-asks, laid-row}
-use Rattle.tables.proofs.Facts.{origin_word_count, origin_tag_count, origin_ascending}
-use Rattle.tables.proofs.Listed.{all_below, all_above, none_before, none, not_listed, listed_at}
+use Rattle.tables.specs.Rows.{origin_words}
 use Rattle.tables.proofs.origins.lookup_origin.Given as goal
 
 abbrev pub invariant-loop-low : goal.invariant-loop-low

@@ -1,11 +1,5 @@
 -- `text::characters::count` meets its contract: the characters of the bytes passed, and of those to come, are all. Assumes nothing.
-use Prim.Native.Nat.{◌+◌, ◌-◌, ◌≤◌}
 use native.Mathlib.Omega.{arith}
-use native.Mathlib.Nat.{add-zero}
-use mathlib.Core.Path.{◌≡◌}
-use lib.ListN.{length, drop}
-use lib.Seq.{drop-length}
-use Rattle.text.specs.Characters.{chars}
 use Rattle.text.proofs.Scan.{chars_next, chars-end}
 use Rattle.text.proofs.characters.count.Goals as goal
 

@@ -1,9 +1,6 @@
 -- `text::names::holds_forbidden` meets its contract: all bytes hold a forbidden one where those to come do. Assumes nothing.
-use Prim.Native.Nat.{◌-◌, ◌≤◌}
 use native.Mathlib.Omega.{arith}
-use mathlib.Core.Path.{◌≡◌, refl, sym, ◌∙◌}
-use lib.ListN.{length, drop}
-use Rattle.text.specs.Names.{holds_forbidden}
+use mathlib.Core.Path.{refl, sym, ◌∙◌}
 use Rattle.text.proofs.Scan.{forbidden_here, forbidden_next, forbidden-end}
 use Rattle.text.proofs.names.holds_forbidden.Goals as goal
 

@@ -1,10 +1,8 @@
 -- `text::names::holds_forbidden` meets its contract: all bytes hold a forbidden one where those to come do. Assumes nothing.
 use Prim.Native.Nat.{◌-◌, ◌≤◌}
-use native.Mathlib.Omega.{arith}
-use mathlib.Core.Path.{◌≡◌, refl, sym, ◌∙◌}
+use mathlib.Core.Path.{◌≡◌}
 use lib.ListN.{length, drop}
 use Rattle.text.specs.Names.{holds_forbidden}
-use Rattle.text.proofs.Scan.{forbidden_here, forbidden_next, forbidden-end}
 use Rattle.text.proofs.names.holds_forbidden.Given as goal
 
 abbrev pub invariant-loop-i : goal.invariant-loop-i

@@ -1,5 +1,4 @@
 -- `text::utf8::held` meets its contract: the byte lies below, above or in the range. Assumes nothing.
-use native.Mathlib.Omega.{arith}
 use Rattle.text.specs.Utf8.{from_to}
 use Rattle.text.proofs.Ranges.{inside, below, above}
 use Rattle.text.proofs.utf8.held.Goals as goal

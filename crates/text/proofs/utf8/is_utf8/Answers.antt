@@ -1,11 +1,7 @@
 -- `text::utf8::is_utf8` meets its contract: the run over all bytes is the run over those to come, from the state reached. Assumes nothing.
-use Prim.Native.Nat.{◌-◌, ◌≤◌}
 use native.Mathlib.Omega.{arith}
-use mathlib.Core.Path.{◌≡◌, refl, sym, ap, ◌∙◌}
-use mathlib.Core.List.{[]}
-use lib.ListN.{length, drop}
-use Rattle.text.specs.Utf8.{Owed, owes, run, whole, is_utf8}
-use Rattle.text.specs.Owes.{owed_of}
+use mathlib.Core.Path.{refl, sym, ap, ◌∙◌}
+use Rattle.text.specs.Utf8.{whole, is_utf8}
 use Rattle.text.proofs.Scan.{run_next, run_end}
 use Rattle.text.proofs.utf8.is_utf8.Goals as goal
 

@@ -1,5 +1,4 @@
 -- `text::utf8::next` meets its contract: each state owes what its arm tests. Assumes nothing.
-use borrow.Author.Rules.{rules}
 use Rattle.text.specs.Utf8.{after}
 use Rattle.text.proofs.utf8.next.Goals as goal
 

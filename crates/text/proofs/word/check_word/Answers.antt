@@ -1,6 +1,6 @@
 -- `text::word::check_word` meets its contract, test by test. Assumes nothing.
-use mathlib.Core.Path.{◌≡◌, sym, ◌∙◌}
-use borrow.Author.Tests.{lt-ltb, le-ltb, not-true, not-false}
+use mathlib.Core.Path.{sym}
+use borrow.Author.Tests.{lt-ltb, le-ltb}
 use Rattle.text.specs.Word.{word_check}
 use Rattle.text.proofs.word.check_word.Goals as goal
 

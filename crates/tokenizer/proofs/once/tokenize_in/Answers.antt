@@ -1,9 +1,8 @@
 -- `tokenizer::once::tokenize_in` meets its contract: one pass, whose count decides. Assumes nothing.
 use borrow.Author.Tests.{not-true, not-false}
 use native.Mathlib.Omega.{arith}
-use mathlib.Core.Path.{◌≡◌, sym, ap, ◌∙◌}
+use mathlib.Core.Path.{sym, ◌∙◌}
 use Rattle.tokenizer.proofs.Answered.{long_passed, other_passed, short-passed, all_passed}
-use borrow.Author.Rules.{rules}
 use Rattle.tokenizer.proofs.once.tokenize_in.Goals as goal
 
 pub returns-then-text-gt65536 : goal.returns-then-text-gt65536

@@ -1,5 +1,4 @@
 -- `tokenizer::parting::ascii_parts` meets its contract: each mask has the bits of the characters that part. Assumes nothing.
-use borrow.Author.Rules.{rules}
 use native.Mathlib.Omega.{arith}
 use Rattle.tokenizer.proofs.Parted.{low, high}
 use Rattle.tokenizer.proofs.parting.ascii_parts.Goals as goal

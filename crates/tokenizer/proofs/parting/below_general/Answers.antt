@@ -1,6 +1,6 @@
 -- `tokenizer::parting::below_general` meets its contract: three characters part, and nothing between them. Assumes nothing.
 use native.Mathlib.Omega.{arith}
-use mathlib.Core.Path.{◌≡◌, refl, sym, ap}
+use mathlib.Core.Path.{refl, sym, ap}
 use Rattle.text.specs.Utf8.{within}
 use Rattle.tokenizer.specs.Parting.{parts, among, white_space, punctuation}
 use Rattle.tokenizer.proofs.Parted.{gap, at_point}

@@ -1,7 +1,7 @@
 -- `tokenizer::parting::is_devanagari` meets its contract. Assumes nothing.
 use native.Mathlib.Omega.{arith}
-use mathlib.Core.Path.{◌≡◌, refl, sym, ap}
-use borrow.Author.Tests.{le-leb, lt-leb}
+use mathlib.Core.Path.{sym}
+use borrow.Author.Tests.{le-leb}
 use Rattle.text.specs.Utf8.{within, from_to}
 use Rattle.text.proofs.Ranges.{below}
 use Rattle.tokenizer.specs.Parting.{devanagari}

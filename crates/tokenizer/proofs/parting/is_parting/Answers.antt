@@ -1,7 +1,6 @@
 -- `tokenizer::parting::is_parting` meets its contract: below U+0080 and from U+2000 by the masks, else one by one. Assumes nothing.
-use borrow.Author.Rules.{rules}
 use native.Mathlib.Omega.{arith}
-use mathlib.Core.Path.{◌≡◌, refl, sym, ap}
+use mathlib.Core.Path.{refl, sym, ap}
 use Rattle.text.specs.Utf8.{within}
 use Rattle.tokenizer.specs.Parting.{parts, among, white_space, punctuation}
 use Rattle.tokenizer.proofs.Parted.{general, gap, at_point}

@@ -1,8 +1,6 @@
 -- `tokenizer::seen::look` meets its contract: the two short ways see what stands there. Assumes nothing.
 use native.Mathlib.Omega.{arith}
-use mathlib.Core.Path.{◌≡◌, refl}
 use Rattle.tokenizer.proofs.Looks.{look_letter, look_sign, look_ascii}
-use borrow.Author.Rules.{rules}
 use Rattle.tokenizer.proofs.seen.look.Goals as goal
 
 pub returns-then-b : goal.returns-then-b

@@ -1,8 +1,5 @@
 -- `tokenizer::seen::look_wide` meets its contract. Assumes nothing.
-use native.Mathlib.Omega.{arith}
-use mathlib.Core.Path.{◌≡◌, refl}
 use Rattle.tokenizer.proofs.Looks.{looked}
-use borrow.Author.Rules.{rules}
 use Rattle.tokenizer.proofs.seen.look_wide.Goals as goal
 
 pub returns : goal.returns

@@ -1,7 +1,5 @@
 -- `tokenizer::seen::number_at` meets its contract: the bits that its bytes hold. Assumes nothing.
-use borrow.Author.Rules.{rules}
 use native.Mathlib.Omega.{arith}
-use mathlib.Core.Path.{◌≡◌, refl}
 use Rattle.tokenizer.proofs.Looks.{number-none, number-one, number_two, number_three, number_four, number_long}
 use Rattle.tokenizer.proofs.seen.number_at.Goals as goal
 

@@ -1,13 +1,10 @@
 -- `tokenizer::seen::size_at` meets its contract: what is owed once a byte is read fixes how many bytes there are. Assumes nothing.
-use borrow.Author.Rules.{rules}
-use borrow.Author.Tests.{not-true, not-false}
-use Prim.Native.Nat.{◌+◌, ◌-◌, ◌≤◌}
+use Prim.Native.Nat.{◌+◌}
 use native.Mathlib.Omega.{arith}
-use mathlib.Core.Path.{◌≡◌, refl, sym, ◌∙◌}
-use lib.ListN.{length, drop}
+use mathlib.Core.Path.{sym, ◌∙◌}
+use lib.ListN.{drop}
 use Rattle.text.specs.Owes.{owed_of}
-use Rattle.tokenizer.specs.Scanned.{width}
-use Rattle.tokenizer.proofs.Looks.{size_by, size-first, size_next, size-short, size-whole}
+use Rattle.tokenizer.proofs.Looks.{size-first, size_next, size-short, size-whole}
 use Rattle.tokenizer.proofs.seen.size_at.Goals as goal
 
 pub bounds-text-at : goal.bounds-text-at

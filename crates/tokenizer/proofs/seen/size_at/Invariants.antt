@@ -1,13 +1,10 @@
 -- `tokenizer::seen::size_at` meets its contract: what is owed once a byte is read fixes how many bytes there are. Assumes nothing.
-use borrow.Author.Rules.{rules}
-use borrow.Author.Tests.{not-true, not-false}
 use Prim.Native.Nat.{◌+◌, ◌-◌, ◌≤◌}
-use native.Mathlib.Omega.{arith}
-use mathlib.Core.Path.{◌≡◌, refl, sym, ◌∙◌}
+use mathlib.Core.Path.{◌≡◌}
 use lib.ListN.{length, drop}
 use Rattle.text.specs.Owes.{owed_of}
 use Rattle.tokenizer.specs.Scanned.{width}
-use Rattle.tokenizer.proofs.Looks.{size_by, size-first, size_next, size-short, size-whole}
+use Rattle.tokenizer.proofs.Looks.{size_by}
 use Rattle.tokenizer.proofs.seen.size_at.Given as goal
 
 abbrev pub invariant-loop-state : goal.invariant-loop-state

@@ -1,8 +1,6 @@
 -- `tokenizer::walk::end_run` meets its contract: a held run is stored where there is room. Assumes nothing.
-use borrow.Author.Tests.{not-true, not-false}
 use native.Mathlib.Omega.{arith}
 use Rattle.tokenizer.proofs.Turns.{ended_plain, ended_full, ended_room}
-use borrow.Author.Rules.{rules}
 use Rattle.tokenizer.proofs.walk.end_run.Goals as goal
 
 pub returns-then-not-held : goal.returns-then-not-held

@@ -1,15 +1,13 @@
 -- `sheet::line::Cursor::step` meets its contract: at each refusal a part of the form is missing, and at the end none is. Assumes nothing.
 use Prim.Native.Nat.{ℕ, ◌+◌, ◌-◌, ◌≤◌}
 use native.Mathlib.Omega.{arith}
-use borrow.Author.Rules.{rules}
 use borrow.Author.Tests.{not-true, not-false}
 use mathlib.Core.Path.{◌≡◌, refl, sym, ap, subst, ◌∙◌}
-use mathlib.Core.Bool.{true, false}
-use mathlib.Core.List.{List}
-use lib.ListN.{length, take, drop, length-drop}
+use mathlib.Core.Bool.{true}
+use lib.ListN.{length, take, drop}
 use Rattle.runs.specs.Runs.{begins_with}
 use Rattle.text.specs.Names.{name_run, holds_forbidden}
-use Rattle.sheet.specs.Forms.{Entry, front, is_form, is_name, is_meant}
+use Rattle.sheet.specs.Forms.{is_meant}
 use Rattle.sheet.specs.Lines.{line_at}
 use Rattle.sheet.specs.Steps.{head_with, head_of}
 use Rattle.sheet.proofs.Fronts.{front-plain}
