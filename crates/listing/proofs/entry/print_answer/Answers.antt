@@ -1,0 +1,25 @@
+-- `entry::print_answer` meets its contract: too long an input, or a word and a sheet. Assumes nothing.
+use native.Mathlib.Omega.{arith}
+use mathlib.Core.Path.{sym}
+use lib.Seq.{length-take-le}
+use Rattle.listing.proofs.Room.{number-line-size}
+use Rattle.listing.proofs.Answered.{answer_as, printed_long, word_end, printed-parts}
+use borrow.Author.Rules.{rules}
+use Rattle.listing.proofs.entry.print_answer.Goals as goal
+
+pub returns-then-input-gt65536 : goal.returns-then-input-gt65536
+returns-then-input-gt65536 c =
+    let t = c in
+    answer_as (printed_long _ t.if-input-gt65536.true) c.write_refused.ensures (number-line-size 4 (omega arith))
+
+pub slice_bounds-print_readings-end : goal.slice_bounds-print_readings-end
+slice_bounds-print_readings-end c = sym (length-take-le c.find-end.result c.args.input.now c.find-end.ensures.1)
+
+pub returns : goal.returns
+returns c =
+    let p = c in
+    let f = p in
+    let a = f.args in
+    let i = a.input.now in
+    let r = p.print_readings.ensures in
+    answer_as (printed-parts i _ _ f.if-input-gt65536.false (word_end i _ f.find-end.ensures.0) p.after.ensures) r.0 r.1

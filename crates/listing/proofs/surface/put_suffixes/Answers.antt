@@ -1,0 +1,59 @@
+-- `surface::put_suffixes` meets its contract: what is put so far and what is to come are all of it. Assumes nothing.
+use Prim.Native.Nat.{◌-◌, ◌≤◌}
+use native.Mathlib.Omega.{arith}
+use mathlib.Core.Path.{◌≡◌, ◌∙◌}
+use mathlib.Core.List.{map}
+use lib.ListN.{length, take, drop, length-map}
+use Rattle.ranking.specs.Stored.{no_segment}
+use Rattle.paths.specs.Recomposed.{in_row, written_of}
+use Rattle.writing.proofs.Puts.{put_as, Upto, upto-none}
+use Rattle.listing.proofs.Parted.{row_turn, row_all}
+use Rattle.listing.proofs.surface.put_suffixes.Goals as goal
+use Rattle.listing.proofs.surface.put_suffixes.Goals.{Start}
+
+-- the array of segments has 4 places
+places : (b : Start) → length b.args.row.segments ≡ 4
+places b = b.well_formed.1.1.1.1.0.1.1.1.1.1.1.0.1.0.1
+
+pub loop-i-init : goal.loop-i-init
+loop-i-init c =
+    let l = places (goal.at.loop-i-init c).Start in
+    (omega arith, omega arith, upto-none _ _ _ (omega arith))
+
+pub offset_bounds-row-i : goal.offset_bounds-row-i
+offset_bounds-row-i c = omega arith
+
+pub bounds-row-i : goal.bounds-row-i
+bounds-row-i c = omega arith
+
+pub written_of-requires : goal.written_of-requires
+written_of-requires c = c.requires
+
+pub overflow_add-i : goal.overflow_add-i
+overflow_add-i c = omega arith
+
+pub loop-i-smaller : goal.loop-i-smaller
+loop-i-smaller c = omega arith
+
+pub loop-i-preserved : goal.loop-i-preserved
+loop-i-preserved c =
+    let p = c in
+    let w = p in
+    let d = w in
+    let b = d in
+    let l = d.loop-i in (
+      omega arith,
+      l.invariant.1,
+      row_turn written_of b.args.row.segments _ l.invariant.1 l.i no_segment (omega arith) l.invariant.2 (put_as w.written_of.ensures p.put-next.ensures),
+    )
+
+pub shape_of-out : goal.shape_of-out
+shape_of-out c = c.loop-i.invariant.2.wrote.size
+
+pub returns : goal.returns
+returns c =
+    let d = c in
+    let w = d in
+    let b = w in
+    let l = places (goal.at.returns c).Start in
+    row_all written_of b.args.row.segments _ d.loop-i.invariant.1 b.args.row.suffix_count d.loop-i.i (omega arith) c.loop-i-test.false d.loop-i.invariant.2

@@ -1,0 +1,14 @@
+-- `surface::write_surface` meets its contract: the first call tells the length, the second writes. Assumes nothing.
+use native.Mathlib.Omega.{arith}
+use Rattle.writing.proofs.Puts.{written-whole, written-not}
+use borrow.Author.Rules.{rules}
+use Rattle.listing.proofs.surface.write_surface.Goals as goal
+
+pub returns-then-out-size : goal.returns-then-out-size
+returns-then-out-size c = written-not c.put_surface-size.ensures c.if-out-size.true
+
+pub returns : goal.returns
+returns c =
+    let p = c in
+    let e = p in
+    written-whole e.put_surface-size.ensures e.if-out-size.false (omega arith) p.put_surface.ensures

@@ -1,0 +1,72 @@
+-- `surface::written_of` meets its contract. Assumes nothing.
+use Prim.Native.Nat.{ℕ, ◌-◌, ◌<◌, ◌+◌}
+use native.Mathlib.Omega.{arith}
+use mathlib.Core.Path.{◌≡◌, refl, sym, ap, ◌∙◌}
+use mathlib.Core.Bool.{Bool, true, false}
+use mathlib.Core.List.{List, []}
+use lib.ListN.{length, take, drop, get_or, length-drop}
+use lib.Seq.{take_all}
+use borrow.Author.Tests.{not-true, not-false}
+use Rattle.runs.specs.Runs.{pick}
+use Rattle.tables.specs.Tables.{affixes, row_at}
+use Rattle.strips.specs.Suffix.{first_length}
+use Rattle.ranking.specs.declared.Segment.{Segment}
+use Rattle.paths.specs.Recomposed.{written_of}
+use Rattle.tables.proofs.Laid.{laid-asks}
+use Rattle.tables.proofs.Facts.{affix_count}
+use Rattle.listing.proofs.Labels.{no_label, label-row, laid-label}
+use borrow.Author.Rules.{rules}
+use Rattle.listing.proofs.surface.written_of.Goals as goal
+use Rattle.listing.proofs.surface.written_of.Goals.{After-row-text}
+
+abbrev text_of : Segment → List ℕ
+text_of s = get_or affixes s.label []
+
+-- no such row, a plain suffix, a shared one
+written_none : (s : Segment) → text_of s ≡ [] → [] ≡ written_of s
+written_none s e = by s.shared ∙ sym (ap (λ (x : List ℕ). pick s.shared (drop (first_length x) x) x) e)
+  where
+    by : (b : Bool) → ◌≡◌ {A = List ℕ} [] (pick b [] [])
+    by true = refl
+    by false = refl
+
+written-plain : (s : Segment) (t : List ℕ) → s.shared ≡ false → t ≡ text_of s → t ≡ written_of s
+written-plain s t b e = rw b e
+
+written-shared : (s : Segment) (t : List ℕ) (from : ℕ) → s.shared ≡ true → t ≡ text_of s → from ≡ first_length t → take (length t - from) (drop from t) ≡ written_of s
+written-shared s t from b e f =
+    take_all (length t - from) (drop from t) (omega (arith, length-drop from t)) ∙ ap (λ (k : ℕ). drop k t) f ∙ ap (λ (x : List ℕ). drop (first_length x) x) e ∙ rw b refl
+
+-- the text of the row that was found
+found : (c : After-row-text) → let b = c in c.row-text.result.now ≡ text_of b.args.s
+found c =
+    let e = c in
+    let w = e in
+    let b = w in
+    c.row-text.ensures ∙ ap (row_at b.args.texts.now b.args.cuts.now) w.wide8-k.ensures
+    ∙ sym (label-row b.args.texts.now b.args.cuts.now b.args.s.label (omega (arith, w.wide8-k.ensures, e.if-cuts-k.false)))
+    ∙ laid-label b.requires b.args.s.label
+
+pub returns-then-cuts-k : goal.returns-then-cuts-k
+returns-then-cuts-k c =
+    let t = c in
+    let w = t in
+    let b = w in
+    written_none b.args.s (sym (laid-label b.requires b.args.s.label) ∙ no_label b.args.texts.now b.args.cuts.now b.args.s.label (omega (arith, w.wide8-k.ensures, t.if-cuts-k.true)))
+
+pub row-text-requires : goal.row-text-requires
+row-text-requires c = ((laid-asks c.requires 0 (omega (arith, affix_count))).0, c.if-cuts-k.false)
+
+pub returns-then-not-s : goal.returns-then-not-s
+returns-then-not-s c =
+    let r = c in
+    let b = r in
+    written-plain b.args.s r.row-text.result.now (not-true b.args.s.shared c.if-not-s.true) (found (goal.at.returns-then-not-s c).After-row-text)
+
+pub returns : goal.returns
+returns c =
+    let l = c in
+    let e = l in
+    let r = e in
+    let b = r in
+    written-shared b.args.s r.row-text.result.now l.first_char_len-from.result (not-false b.args.s.shared e.if-not-s.false) (found (goal.at.returns c).After-row-text) l.first_char_len-from.ensures.0

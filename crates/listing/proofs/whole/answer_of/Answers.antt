@@ -1,0 +1,19 @@
+-- `whole::answer_of` meets its contract: the buffer has room for the longest list. Assumes nothing.
+use Prim.Native.Nat.{◌≤◌}
+use native.Mathlib.Omega.{arith}
+use borrow.Author.Rules.{rules}
+use Rattle.listing.specs.Printed.{readings_text, printed}
+use Rattle.writing.proofs.Wholes.{whole, never_short}
+use Rattle.listing.proofs.whole.answer_of.Goals as goal
+
+pub returns-in-Wrote : goal.returns-in-Wrote
+returns-in-Wrote c =
+    let p = c in
+    let a = p.args in
+    whole (printed a.input.now) a.out.now _ _ (omega (arith, p.print_answer-written.ensures.1)) p.print_answer-written.ensures.0 _ c.in-Wrote.is
+
+pub returns-in-Refused : goal.returns-in-Refused
+returns-in-Refused c =
+    let p = c in
+    let a = p.args in
+    absurd (never_short (printed a.input.now) a.out.now _ _ (omega (arith, p.print_answer-written.ensures.1)) p.print_answer-written.ensures.0 _ c.in-Refused.is)
