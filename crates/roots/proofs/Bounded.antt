@@ -1,16 +1,14 @@
 -- Never more than 16 candidates: the word, the decomposition, 4 with one suffix, and 5 under each of two prefix rows. At most two
 -- rows of SUFFIXES end one piece, and at most two prefix forms begin it. So a list with room for 16 holds all. Assumes nothing.
-use Prim.Native.Nat.{ℕ, zero, suc, ◌+◌, ◌*◌, ◌<◌, ◌≤◌}
-use native.Mathlib.Nat.{not-suc-le-zero}
+use Prim.Native.Nat.{ℕ, suc, ◌+◌, ◌*◌, ◌<◌, ◌≤◌}
 use native.Mathlib.Omega.{arith}
 use mathlib.Core.Path.{◌≡◌, refl, sym, ap, ◌∙◌}
 use mathlib.Core.Bool.{Bool, true, false, ◌&&◌}
 use mathlib.Core.List.{List, [], ◌∷◌, ◌++◌}
-use lib.ListN.{length, drop, get_or, length-append}
+use lib.ListN.{length, drop, length-append}
 use lib.Dec.{leb, ltb}
 use borrow.Author.Tests.{lt-ltb}
 use Rattle.runs.specs.Runs.{pick, begins_with, ends_in}
-use Rattle.runs.proofs.Begins.{and_left, and_right}
 use Rattle.text.specs.Utf8.{tail, within}
 use Rattle.text.specs.Characters.{opens, chars}
 use Rattle.tables.specs.Rows.{prefix_forms, suffixes}
@@ -30,8 +28,8 @@ use Rattle.decomposition.specs.declared.Parts.{Parts}
 use Rattle.decomposition.specs.declared.fronts.Front.{Front}
 use Rattle.roots.specs.Rank.{ahead_of}
 use Rattle.roots.specs.Lists.{holds_in, ranked, once, root_limit}
-use Rattle.roots.specs.Room.{once_within, held_by, held_of, held_all}
-use Rattle.roots.specs.Candidates.{is_known, candidate_by, kept_by, kept_of, kept_all, parts_among, under_row, under_rows, bare, one_suffix, under_form, under_forms, offers, candidates}
+use Rattle.roots.specs.Room.{once_within, held_of, held_all}
+use Rattle.roots.specs.Candidates.{is_known, candidate_by, kept_of, kept_all, parts_among, under_row, under_rows, bare, one_suffix, under_form, under_forms, offers, candidates}
 use Rattle.roots.specs.Answers.{roots_if, roots_for}
 use Rattle.roots.proofs.Offered.{held-append}
 use Rattle.roots.specs.declared.RootCandidate.{RootCandidate}

@@ -10,7 +10,7 @@ use lib.Seq.{drop-cons}
 use mathlib.Core.Bool.{Bool, true, false}
 use lib.Dec.{ltb}
 use borrow.Author.Tests.{lt-ltb, le-ltb, ltb-true, ltb-false}
-use Rattle.runs.specs.Runs.{pick, cmp}
+use Rattle.runs.specs.Runs.{cmp}
 use Rattle.runs.specs.declared.Order.{Order}
 use Rattle.runs.specs.declared.Order.TheVariants.{Less, Equal, Greater}
 use Rattle.tables.specs.Tables.{Laid, row_at, places_from}

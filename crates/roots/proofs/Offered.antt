@@ -1,11 +1,11 @@
 -- Laws of what is offered: one root with its labels, the remainders under a row, all rows, all forms. The proofs of the functions of
 -- `offers` cite these. Assumes nothing.
-use Prim.Native.Nat.{ℕ, zero, suc, ◌+◌, ◌-◌, ◌<◌, ◌≤◌}
+use Prim.Native.Nat.{ℕ, suc, ◌+◌, ◌<◌, ◌≤◌}
 use native.Mathlib.Omega.{arith}
 use native.Mathlib.Numerals.{add-one}
 use mathlib.Core.Path.{◌≡◌, refl, sym, ap, ◌∙◌}
 use mathlib.Core.Bool.{Bool, true, false}
-use mathlib.Core.List.{List, [], ◌∷◌, ◌++◌, append-nil, append_assoc}
+use mathlib.Core.List.{List, [], ◌∷◌, ◌++◌, append_assoc}
 use lib.ListN.{length, take, drop, get_or, drop_of_length-le, length-drop}
 use lib.Seq.{drop-cons, length-take-le}
 use lib.Dec.{leb, ltb}
@@ -18,11 +18,10 @@ use Rattle.sheet.specs.declared.letters.Letters.{Letters}
 use Rattle.strips.specs.Suffix.{fronts}
 use Rattle.strips.specs.declared.suffix.Rests.{Rests}
 use Rattle.strips.specs.Prefix.{leaves, rest_of}
-use Rattle.strips.specs.declared.prefix.Rest.{Rest}
 use Rattle.strips.specs.declared.prefix.Rest.TheVariants.{Nothing, From}
 use Rattle.origin.specs.Decisions.{decision_of}
 use Rattle.origin.specs.declared.OriginDecision.{OriginDecision}
-use Rattle.decomposition.specs.Strips.{label_row, least_root, left_of, open_rests, front_at, no_rests}
+use Rattle.decomposition.specs.Strips.{label_row, least_root, left_of, open_rests, front_at}
 use Rattle.decomposition.specs.Parts.{root_text, parts_of, filled}
 use Rattle.decomposition.specs.declared.Parts.{Parts}
 use Rattle.decomposition.specs.declared.fronts.Front.{Front}

@@ -3,7 +3,6 @@ use mathlib.Core.Path.{◌≡◌, refl}
 use mathlib.Core.Bool.{Bool, true, false}
 use mathlib.Core.List.{List, [], ◌∷◌, ◌++◌, map}
 use Prim.Native.Nat.{ℕ}
-use lib.ListN.{take, get_or}
 use Rattle.text.specs.Utf8.{within, utf8_char, opened, after, run, is_utf8}
 use Rattle.text.specs.Characters.{opens, chars}
 use Rattle.text.specs.Names.{forbidden, name_run, holds_forbidden}
@@ -12,13 +11,13 @@ use Rattle.tables.specs.Rows.{prefix_forms, prefix_labels, suffixes, strip_suffi
 use Rattle.tables.specs.Tables.{is_ii}
 use Rattle.tables.specs.Origins.{origin_of}
 use Rattle.tables.specs.declared.origins.Origin.{Origin}
-use Rattle.tables.specs.declared.origins.Origin.TheVariants.{Tatsam, Tadbhav, Deshaj, Aagantuk}
+use Rattle.tables.specs.declared.origins.Origin.TheVariants.{Tadbhav, Deshaj}
 use Rattle.sheet.specs.Letters.{tag_of, letters_of, well_kept, is_letters}
 use Rattle.sheet.specs.Forms.{entry_of, written, is_name, is_kind, is_meant, is_form}
 use Rattle.sheet.specs.Lines.{judged, sheet_check}
 use Rattle.sheet.specs.Replies.{reply}
-use Rattle.strips.specs.Suffix.{sheds, is_long, plain, shared, remainders, rests_of, keeps_pronoun}
-use Rattle.strips.specs.Prefix.{least_after, leaves, prefix_remainder}
+use Rattle.strips.specs.Suffix.{sheds, is_long, plain, shared, remainders, keeps_pronoun}
+use Rattle.strips.specs.Prefix.{least_after, leaves}
 use Rattle.origin.specs.Marks.{contains_one, ends_in_one, aagantuk_marks, has_aagantuk_markers, tatsam_marks, has_tatsam_markers, tadbhav_ends, has_tadbhav_markers, heuristic_of}
 use Rattle.sheet.specs.Inputs.{inputs_of}
 use Rattle.origin.specs.Decisions.{known_in, known_by, known_rest, known_under, known_stem, decision_of}

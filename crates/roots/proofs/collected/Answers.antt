@@ -1,5 +1,5 @@
 -- `collected` meets its contract: what is held are the candidates. Assumes nothing.
-use mathlib.Core.Path.{◌≡◌, sym, ap, ◌∙◌}
+use mathlib.Core.Path.{◌≡◌}
 use Prim.Native.Nat.{◌≤◌}
 use native.Mathlib.Omega.{arith}
 use Rattle.text.specs.Characters.{chars}
@@ -8,34 +8,30 @@ use Rattle.decomposition.specs.Parts.{decomposed_of}
 use Rattle.decomposition.proofs.Few.{few-prefixes, few-suffixes}
 use Rattle.roots.specs.Room.{Lent}
 use Rattle.roots.proofs.Bounded.{collected_is, chars_most}
-use borrow.Author.Rules.{rules}
 use Rattle.roots.proofs.collected.Goals as goal
 use Rattle.roots.proofs.collected.Goals.{After-count-surface}
 
 few : (c : After-count-surface) → c.count-surface.result ≤ 192
 few c =
-    let s = c in
-    let n : c.count-surface.result ≡ chars s.args.word.now = c.count-surface.ensures in
-    let m = chars_most s.args.word.now in
-    let h = s.requires.4 in
+    let n : c.count-surface.result ≡ chars c.args.word.now = c.count-surface.ensures in
+    let m = chars_most c.args.word.now in
+    let h = c.requires.4 in
     omega arith
 
 lent : (c : After-count-surface) → let a = c.args in
-    Lent a.word.now a.sheet.now a.starts.now a.texts.now a.cuts.now a.labels.now a.label-cuts.now c.count-surface.result
+    Lent a.word.now a.sheet.now a.starts.now a.texts.now a.cuts.now a.labels.now a.label_cuts.now c.count-surface.result
 lent c =
-    let s = c in
-    record { indexed = s.requires.0; texts_laid = s.requires.1; labels-laid = s.requires.2; short = s.requires.4; counted = c.count-surface.ensures; few = few c }
+    record { indexed = c.requires.0; texts_laid = c.requires.1; labels-laid = c.requires.2; short = c.requires.4; counted = c.count-surface.ensures; few = few c }
 
 pub overflow_cast-surface : goal.overflow_cast-surface
-overflow_cast-surface c = let s = c in omega (arith, few (goal.at.overflow_cast-surface c).After-count-surface)
+overflow_cast-surface c = omega (arith, few (goal.at.overflow_cast-surface c).After-count-surface)
 
 pub with_word-l-requires : goal.with_word-l-requires
 with_word-l-requires c =
-    let s = c in
-    let p : c.decomposed-p.result ≡ decomposed_of (reply s.args.sheet.now) s.args.word.now = c.decomposed-p.ensures in (
+    let p : c.decomposed-p.result ≡ decomposed_of (reply c.args.sheet.now) c.args.word.now = c.decomposed-p.ensures in (
       lent (goal.at.with_word-l-requires c).After-count-surface,
-      rw p (few-prefixes (reply s.args.sheet.now) s.args.word.now),
-      rw p (few-suffixes (reply s.args.sheet.now) s.args.word.now),
+      rw p (few-prefixes (reply c.args.sheet.now) c.args.word.now),
+      rw p (few-suffixes (reply c.args.sheet.now) c.args.word.now),
       omega (arith, c.nothing.ensures.1),
     )
 

@@ -2,7 +2,6 @@
 use mathlib.Core.Path.{sym, ap, ◌∙◌}
 use Rattle.ranking.specs.Rank.{is_less}
 use Rattle.roots.specs.Rank.{ahead_of}
-use borrow.Author.Rules.{rules}
 use Rattle.roots.proofs.list.ahead.Goals as goal
 
 pub returns-in-Less : goal.returns-in-Less

@@ -1,13 +1,8 @@
 -- `list::holds` meets its contract: no row passed has the same root and labels. Assumes nothing.
-use Prim.Native.Nat.{◌+◌, ◌-◌, ◌≤◌}
-use native.Mathlib.Omega.{arith}
-use mathlib.Core.Path.{◌≡◌, refl, sym, ap, ◌∙◌}
-use mathlib.Core.List.{◌∷◌}
-use lib.ListN.{length, take, drop, get_or, length-map}
-use Rattle.ranking.proofs.Puts.{scan_next, scan-end}
-use Rattle.roots.specs.Rank.{is_equal, key_order}
-use Rattle.roots.specs.Lists.{holds_in, no_candidate}
-use Rattle.roots.proofs.Kept.{holds_here, holds_next, holds_none}
+use Prim.Native.Nat.{◌-◌, ◌≤◌}
+use mathlib.Core.Path.{◌≡◌}
+use lib.ListN.{length, take, drop}
+use Rattle.roots.specs.Lists.{holds_in}
 use Rattle.roots.proofs.list.holds.Given as goal
 
 abbrev pub invariant-loop-i : goal.invariant-loop-i

@@ -1,11 +1,8 @@
 -- `list::insert_at` meets its contract: the rows with the carried one put in are the same all along. Assumes nothing.
-use Prim.Native.Nat.{ℕ, ◌+◌, ◌-◌, ◌<◌, ◌≤◌}
-use native.Mathlib.Omega.{arith}
-use mathlib.Core.Path.{◌≡◌, refl, sym, ap, ◌∙◌}
-use lib.ListN.{length, take, get_or, set, length-set, length-map}
+use Prim.Native.Nat.{◌-◌, ◌<◌, ◌≤◌}
+use mathlib.Core.Path.{◌≡◌}
+use lib.ListN.{length}
 use Rattle.ranking.specs.Places.{put_in}
-use Rattle.roots.specs.Lists.{no_candidate}
-use Rattle.ranking.proofs.Puts.{carry_on, carried_last, put_front}
 use Rattle.roots.proofs.list.insert_at.Given as goal
 
 abbrev pub invariant-loop-i : goal.invariant-loop-i

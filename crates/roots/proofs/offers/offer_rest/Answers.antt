@@ -1,6 +1,6 @@
 -- `offers::offer_rest` meets its contract: too few characters, or the parts are offered. Assumes nothing.
-use mathlib.Core.Path.{◌≡◌, sym, ap, ◌∙◌}
-use mathlib.Core.List.{List, [], ◌∷◌}
+use mathlib.Core.Path.{◌≡◌, ap, ◌∙◌}
+use mathlib.Core.List.{[], ◌∷◌}
 use Prim.Native.Nat.{ℕ, ◌+◌, ◌-◌, ◌<◌, ◌≤◌}
 use native.Mathlib.Omega.{arith}
 use lib.ListN.{take, drop}
@@ -9,7 +9,6 @@ use Rattle.sheet.specs.Replies.{reply}
 use Rattle.decomposition.specs.Strips.{label_row, least_root}
 use Rattle.roots.specs.Lists.{rows_of}
 use Rattle.roots.proofs.Offered.{rest-few, rest_enough, one_label}
-use borrow.Author.Rules.{rules}
 use Rattle.roots.proofs.offers.offer_rest.Goals as goal
 use Rattle.roots.proofs.offers.offer_rest.Goals.{After-count}
 
@@ -22,17 +21,15 @@ cut c =
 
 pub returns-then-count-least_root : goal.returns-then-count-least_root
 returns-then-count-least_root c =
-    let s = c in
-    let r = take s.args.len (drop s.args.front.from s.args.word.now) in
-    let h : chars r < least_root s.args.front.count = rw (cut (goal.at.returns-then-count-least_root c).After-count, c.least_root.ensures) at c.if-count-least_root.true in
-    (rest-few 16 (reply s.args.sheet.now) s.args.word.now (rows_of s.args.list) (least_root s.args.front.count) s.args.front (label_row s.args.k ∷ []) r h, s.requires.3)
+    let r = take c.args.len (drop c.args.front.from c.args.word.now) in
+    let h : chars r < least_root c.args.front.count = rw (cut (goal.at.returns-then-count-least_root c).After-count, c.least_root.ensures) at c.if-count-least_root.true in
+    (rest-few 16 (reply c.args.sheet.now) c.args.word.now (rows_of c.args.list) (least_root c.args.front.count) c.args.front (label_row c.args.k ∷ []) r h, c.requires.3)
 
 pub returns : goal.returns
 returns c =
-    let s = c in
-    let r = take s.args.len (drop s.args.front.from s.args.word.now) in
-    let h : least_root s.args.front.count ≤ chars r = rw (cut (goal.at.returns c).After-count, c.least_root.ensures) at c.if-count-least_root.false in (
-      rest_enough 16 (reply s.args.sheet.now) s.args.word.now (rows_of s.args.list) (least_root s.args.front.count) s.args.front (label_row s.args.k ∷ []) r _ _ h
-          (one_label s.args.word.now s.args.front s.args.len c.label_row.result s.args.k s.requires.2 c.label_row.ensures) c.offer.ensures.0,
+    let r = take c.args.len (drop c.args.front.from c.args.word.now) in
+    let h : least_root c.args.front.count ≤ chars r = rw (cut (goal.at.returns c).After-count, c.least_root.ensures) at c.if-count-least_root.false in (
+      rest_enough 16 (reply c.args.sheet.now) c.args.word.now (rows_of c.args.list) (least_root c.args.front.count) c.args.front (label_row c.args.k ∷ []) r _ _ h
+          (one_label c.args.word.now c.args.front c.args.len c.label_row.result c.args.k c.requires.2 c.label_row.ensures) c.offer.ensures.0,
       c.offer.ensures.1,
     )

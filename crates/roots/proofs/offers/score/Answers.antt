@@ -1,7 +1,6 @@
 -- `offers::score` meets its contract. Assumes nothing.
 use native.Mathlib.Omega.{arith}
 use Rattle.roots.specs.Candidates.{score_by}
-use borrow.Author.Rules.{rules}
 use Rattle.roots.proofs.offers.score.Goals as goal
 
 pub returns : goal.returns

@@ -7,16 +7,14 @@ use Rattle.roots.specs.Candidates.{bare, one_suffix}
 use Rattle.roots.specs.Room.{held_of, held_all}
 use Rattle.roots.specs.declared.RootCandidate.{RootCandidate}
 use Rattle.roots.proofs.Offered.{bare_is, held_first}
-use borrow.Author.Rules.{rules}
 use Rattle.roots.proofs.offers.with_front.Goals as goal
 
 pub returns : goal.returns
 returns c =
-    let s = c in
-    let a = s.args in
+    let a = c.args in
     let ask = reply a.sheet.now in
     let o : rows_of c.offer-l.result ≡ held_of 16 ask a.word.now (rows_of a.list) (bare a.word.now a.front) =
-    c.offer-l.ensures.0 ∙ ap (held_of 16 ask a.word.now (rows_of a.list)) (bare_is a.word.now a.front s.requires.2) in (
+    c.offer-l.ensures.0 ∙ ap (held_of 16 ask a.word.now (rows_of a.list)) (bare_is a.word.now a.front c.requires.2) in (
       c.with_suffix.ensures.0
           ∙ ap (λ (l : List RootCandidate). held_all 16 ask a.word.now l (one_suffix ask a.word.now a.front)) o
           ∙ held_first 16 ask a.word.now (rows_of a.list) (bare a.word.now a.front) (one_suffix ask a.word.now a.front),

@@ -1,21 +1,12 @@
 -- `offers::with_prefix` meets its contract: what all rows offer is what those to come offer to what has been kept. Assumes nothing.
-use mathlib.Core.Path.{◌≡◌, refl, sym, ap, ◌∙◌}
-use mathlib.Core.Logic.{⊎_elim}
-use mathlib.Core.List.{List, [], ◌∷◌}
-use Prim.Native.Nat.{ℕ, ◌+◌, ◌-◌, ◌<◌, ◌≤◌}
-use native.Mathlib.Omega.{arith}
-use borrow.Author.Rules.{rules}
-use lib.ListN.{length, drop, get_or}
+use mathlib.Core.Path.{◌≡◌}
+use Prim.Native.Nat.{◌-◌, ◌≤◌}
+use lib.ListN.{drop}
 use Rattle.tables.specs.Rows.{prefix_forms}
-use Rattle.tables.proofs.Laid.{laid-asks, laid-row}
-use Rattle.tables.proofs.Facts.{prefix_form_count}
 use Rattle.sheet.specs.Replies.{reply}
-use Rattle.strips.proofs.Remainders.{rest-inside}
 use Rattle.roots.specs.Lists.{rows_of}
 use Rattle.roots.specs.Candidates.{under_forms}
 use Rattle.roots.specs.Room.{held_all}
-use Rattle.roots.specs.declared.Roots.{Roots}
-use Rattle.roots.proofs.Offered.{forms-some, forms-none, forms-end}
 use Rattle.roots.proofs.offers.with_prefix.Given as goal
 
 abbrev pub invariant-loop-k : goal.invariant-loop-k

@@ -9,13 +9,11 @@ use Rattle.roots.specs.Candidates.{bare, one_suffix}
 use Rattle.roots.specs.Room.{held_of, held_all}
 use Rattle.roots.specs.declared.RootCandidate.{RootCandidate}
 use Rattle.roots.proofs.Offered.{bare_is, held_first}
-use borrow.Author.Rules.{rules}
 use Rattle.roots.proofs.offers.with_word.Goals as goal
 
 pub returns : goal.returns
 returns c =
-    let s = c in
-    let a = s.args in
+    let a = c.args in
     let ask = reply a.sheet.now in
     let xs = rows_of a.list in
     let one = one_suffix ask a.word.now no_front in

@@ -1,14 +1,9 @@
 -- `order::compare_labels` meets its contract: what is left of both lists, from the i-th label on, compares as the lists do. Assumes nothing.
-use mathlib.Core.Path.{◌≡◌, refl, sym, ap, ◌∙◌}
-use mathlib.Core.List.{List, map}
-use Prim.Native.Nat.{ℕ, ◌+◌, ◌-◌, ◌≤◌, ◌<◌}
-use native.Mathlib.Omega.{arith}
-use borrow.Author.Rules.{rules}
-use lib.ListN.{length, drop, get_or}
-use Rattle.runs.specs.declared.Order.{Order}
-use Rattle.runs.specs.Runs.{cmp}
-use Rattle.roots.specs.Rank.{then_by, cmp_texts, label_at}
-use Rattle.roots.proofs.Labels.{labels-decided, labels_long, labels-short, labels_ended}
+use mathlib.Core.Path.{◌≡◌}
+use mathlib.Core.List.{map}
+use Prim.Native.Nat.{◌-◌, ◌≤◌}
+use lib.ListN.{length, drop}
+use Rattle.roots.specs.Rank.{cmp_texts, label_at}
 use Rattle.roots.proofs.order.compare_labels.Given as goal
 
 abbrev pub invariant-loop-i : goal.invariant-loop-i

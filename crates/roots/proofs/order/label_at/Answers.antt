@@ -1,7 +1,6 @@
 -- `order::label_at` meets its contract. Assumes nothing.
 use mathlib.Core.Path.{◌∙◌}
 use Rattle.roots.proofs.Labels.{label-none, label-row}
-use borrow.Author.Rules.{rules}
 use Rattle.roots.proofs.order.label_at.Goals as goal
 
 pub returns-then-cuts-i : goal.returns-then-cuts-i

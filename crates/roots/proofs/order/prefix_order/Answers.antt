@@ -4,7 +4,6 @@ use mathlib.Core.List.{List, [], ◌∷◌, map}
 use Prim.Native.Nat.{ℕ}
 use lib.ListN.{take}
 use Rattle.roots.specs.Rank.{cmp_texts, label_at}
-use borrow.Author.Rules.{rules}
 use Rattle.roots.proofs.order.prefix_order.Goals as goal
 
 pub returns : goal.returns

@@ -1,13 +1,11 @@
 -- `order::rank` meets its contract, key by key. Assumes nothing.
 use mathlib.Core.Path.{◌≡◌, sym, ap, ◌∙◌}
 use Prim.Native.Nat.{ℕ}
-use borrow.Author.Tests.{not-true, not-false}
 use Rattle.runs.specs.declared.Order.{Order}
 use Rattle.text.specs.Characters.{chars}
 use Rattle.decomposition.specs.Parts.{root_text}
 use Rattle.roots.specs.Rank.{then_by, descending, having, rank_of}
 use Rattle.roots.proofs.Alternatives.{decides, passes}
-use borrow.Author.Rules.{rules}
 use Rattle.roots.proofs.order.rank.Goals as goal
 use Rattle.roots.proofs.order.rank.Goals.{After-larger_first-length, Else-not-is_equal, Else-not-is_equal-2, Else-not-is_equal-3}
 
@@ -44,32 +42,19 @@ returns-then-not-is_equal c = decides _ _ _ c.larger_first-score.ensures (sym c.
 pub returns-then-not-is_equal-2 : goal.returns-then-not-is_equal-2
 unfolding rank_of
 returns-then-not-is_equal-2 c =
-    let h = c in
-    by_score (goal.at.returns-then-not-is_equal-2 c).Else-not-is_equal (decides _ _ _ h.having_first-head.ensures (sym c.is_equal-2.ensures ∙ c.if-not-is_equal-2.true))
+    by_score (goal.at.returns-then-not-is_equal-2 c).Else-not-is_equal (decides _ _ _ c.having_first-head.ensures (sym c.is_equal-2.ensures ∙ c.if-not-is_equal-2.true))
 
 pub returns-then-not-is_equal-3 : goal.returns-then-not-is_equal-3
 unfolding rank_of
 returns-then-not-is_equal-3 c =
-    let k = c in
-    let e = k in
-    by_score (goal.at.returns-then-not-is_equal-3 c).Else-not-is_equal (by_head (goal.at.returns-then-not-is_equal-3 c).Else-not-is_equal-2 (decides _ _ _ k.having_first-known.ensures (sym c.is_equal-3.ensures ∙ c.if-not-is_equal-3.true)))
+    by_score (goal.at.returns-then-not-is_equal-3 c).Else-not-is_equal (by_head (goal.at.returns-then-not-is_equal-3 c).Else-not-is_equal-2 (decides _ _ _ c.having_first-known.ensures (sym c.is_equal-3.ensures ∙ c.if-not-is_equal-3.true)))
 
 pub returns-then-not-is_equal-4 : goal.returns-then-not-is_equal-4
 unfolding rank_of
 returns-then-not-is_equal-4 c =
-    let n = c in
-    let e = n in
-    let f = e in
     by_score (goal.at.returns-then-not-is_equal-4 c).Else-not-is_equal (by_head (goal.at.returns-then-not-is_equal-4 c).Else-not-is_equal-2 (by_word (goal.at.returns-then-not-is_equal-4 c).Else-not-is_equal-3 (decides _ _ _ (measured (goal.at.returns-then-not-is_equal-4 c).After-larger_first-length) (sym c.is_equal-4.ensures ∙ c.if-not-is_equal-4.true))))
-
-pub key_order-requires : goal.key_order-requires
-key_order-requires c = let s = c in (s.requires.0, s.requires.1)
 
 pub returns : goal.returns
 unfolding rank_of
 returns c =
-    let d = c in
-    let n = d in
-    let e = n in
-    let f = e in
-    by_score (goal.at.returns c).Else-not-is_equal (by_head (goal.at.returns c).Else-not-is_equal-2 (by_word (goal.at.returns c).Else-not-is_equal-3 (passes _ _ _ _ (measured (goal.at.returns c).After-larger_first-length) (sym d.is_equal-4.ensures ∙ d.if-not-is_equal-4.false) c.key_order.ensures)))
+    by_score (goal.at.returns c).Else-not-is_equal (by_head (goal.at.returns c).Else-not-is_equal-2 (by_word (goal.at.returns c).Else-not-is_equal-3 (passes _ _ _ _ (measured (goal.at.returns c).After-larger_first-length) (sym c.is_equal-4.ensures ∙ c.if-not-is_equal-4.false) c.key_order.ensures)))

@@ -1,10 +1,9 @@
 -- `order::suffix_order` meets its contract. Assumes nothing.
 use mathlib.Core.Path.{ap, ◌∙◌}
-use mathlib.Core.List.{List, [], ◌∷◌, map}
+use mathlib.Core.List.{List, map}
 use Prim.Native.Nat.{ℕ}
 use lib.ListN.{take}
 use Rattle.roots.specs.Rank.{cmp_texts, label_at}
-use borrow.Author.Rules.{rules}
 use Rattle.roots.proofs.order.suffix_order.Goals as goal
 
 pub returns : goal.returns
