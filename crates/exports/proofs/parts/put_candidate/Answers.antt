@@ -1,0 +1,13 @@
+-- `parts::put_candidate` meets its contract. Assumes nothing.
+use mathlib.Core.Path.{ap, ◌∙◌}
+use mathlib.Core.List.{List, ◌++◌}
+use Prim.Native.Nat.{ℕ}
+use lib.ListN.{drop}
+use Rattle.exports.proofs.Put.{candidate-bytes}
+use borrow.Author.Rules.{rules}
+use Rattle.exports.proofs.parts.put_candidate.Goals as goal
+
+pub returns : goal.returns
+returns c =
+    let a = c.args in
+    c.put_parts.ensures ∙ ap (λ (l : List ℕ). l ++ drop 33 a.out.now) (candidate-bytes a.c c.origin_byte-origin.ensures c.bit_of.ensures.0 c.bit_of-2.ensures.0)

@@ -1,0 +1,17 @@
+-- `exports::rescue::rescued_code` meets its contract, case by case. Assumes nothing.
+use mathlib.Core.Path.{sym, ap, subst, ◌∙◌}
+use Rattle.exports.specs.Rescue.{Fitting, rescued_code}
+use borrow.Author.Rules.{rules}
+use Rattle.exports.proofs.rescue.rescued_code.Goals as goal
+
+pub sizes_code-requires : goal.sizes_code-requires
+sizes_code-requires c = subst Fitting c.in-Wrote.is c.requires
+
+pub refusal_code-requires : goal.refusal_code-requires
+refusal_code-requires c = subst Fitting c.in-Refused.is c.requires
+
+pub returns-in-Wrote : goal.returns-in-Wrote
+returns-in-Wrote c = c.sizes_code.ensures ∙ ap rescued_code (sym c.in-Wrote.is)
+
+pub returns-in-Refused : goal.returns-in-Refused
+returns-in-Refused c = c.refusal_code.ensures ∙ ap rescued_code (sym c.in-Refused.is)

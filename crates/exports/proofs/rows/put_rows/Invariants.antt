@@ -1,0 +1,26 @@
+-- `rows::put_rows` meets its contract: the rows stored so far stand at the front, one after the other. Assumes nothing.
+use Prim.Native.Nat.{ℕ, ◌+◌, ◌-◌, ◌*◌, ◌≤◌}
+use native.Mathlib.Omega.{arith}
+use mathlib.Core.Path.{◌≡◌, refl, sym, ap, ◌∙◌}
+use mathlib.Core.List.{List, ◌++◌}
+use lib.ListN.{length, take, drop}
+use lib.Seq.{take_all}
+use borrow.Rule.Slice.PartMut.{mid_of}
+use borrow.Author.Rules.{rules}
+use Rattle.sheet.specs.Replies.{Indexed, reply}
+use Rattle.ranking.specs.declared.Classified.{Classified}
+use Rattle.ranking.specs.Lists.{list_limit}
+use Rattle.ranking.specs.Kept.{kept_bytes}
+use Rattle.ranking.specs.Places.{no_row}
+use Rattle.paths.specs.Readings.{classified}
+use Rattle.exports.specs.Rows.{each, row_bytes, row_width}
+use Rattle.exports.proofs.Widths.{rows_short, rows_long, store_none, store_next}
+use Rattle.exports.proofs.Kept.{rows_for, rows-counted, row_is}
+use Rattle.exports.proofs.rows.put_rows.Given as goal
+
+abbrev pub invariant-loop-i : goal.invariant-loop-i
+invariant-loop-i l = (l.i ≤ l.n) × (l.n ≤ list_limit) × (length l.out ≡ length l.initial.out) × (l.out ≡ each row_bytes (take l.i (rows_for l.word l.sheet l.kept l.n)) ++ drop (row_width * l.i) l.initial.out)
+    × (row_width * l.n ≤ length l.initial.out) × Indexed l.sheet l.starts × (kept_bytes ≤ length l.kept)
+
+abbrev pub decreases-loop-i : goal.decreases-loop-i
+decreases-loop-i l = l.n - l.i

@@ -1,0 +1,43 @@
+-- `rows::rows_in` meets its contract: the refusal of the word, or the rows by the accepted sheet. Assumes nothing.
+use Prim.Native.Nat.{ℕ}
+use mathlib.Core.Path.{◌≡◌, sym, ap, ◌∙◌}
+use mathlib.Core.List.{List}
+use Rattle.sheet.proofs.Refusals.{refused-placed}
+use Rattle.sheet.specs.Inputs.{inputs_of}
+use Rattle.sheet.specs.declared.inputs.Inputs.{Inputs}
+use Rattle.lookup.proofs.Readied.{said-indexed, word-said}
+use Rattle.exports.specs.Rows.{Filled}
+use Rattle.exports.proofs.Kept.{filled-refused}
+use borrow.Author.Rules.{rules}
+use Rattle.exports.proofs.rows.rows_in.Goals as goal
+use Rattle.exports.proofs.rows.rows_in.Goals.{After-prepare_word-inputs}
+
+-- what is said of the word is said of word and sheet
+module _ (c : After-prepare_word-inputs) where
+  abbrev w : List ℕ
+  w = c.args.word.now
+
+  abbrev s : List ℕ
+  s = c.args.sheet.now
+
+  said : (x : Inputs) → c.prepare_word-inputs.result ≡ x → x ≡ inputs_of w s
+  said x e = sym e ∙ c.prepare_word-inputs.ensures ∙ said-indexed w s c.requires.accepted
+
+pub refusal_code-requires : goal.refusal_code-requires
+refusal_code-requires c =
+    let i = c in
+    let k = i in
+    refused-placed (w (goal.at.refusal_code-requires c).After-prepare_word-inputs) (s (goal.at.refusal_code-requires c).After-prepare_word-inputs) _ (sym (said (goal.at.refusal_code-requires c).After-prepare_word-inputs _ i.in-Refused.is))
+
+pub accepted_rows-requires : goal.accepted_rows-requires
+accepted_rows-requires c =
+    let e = c in
+    let k = e in
+    (word-said (w (goal.at.accepted_rows-requires c).After-prepare_word-inputs) k.prepare_word-inputs.result k.prepare_word-inputs.ensures e.in-Accepted.is, k.requires)
+
+pub returns-in-Refused : goal.returns-in-Refused
+returns-in-Refused c =
+    let i = c in
+    let k = i in
+    let q = filled-refused (w (goal.at.returns-in-Refused c).After-prepare_word-inputs) (s (goal.at.returns-in-Refused c).After-prepare_word-inputs) k.args.out.now _ (said (goal.at.returns-in-Refused c).After-prepare_word-inputs _ i.in-Refused.is) in
+    (c.refusal_code.ensures ∙ ap (λ (f : Filled). f.code) q, ap (λ (f : Filled). f.buffer) q)

@@ -1,0 +1,12 @@
+-- `exports::tokens::yunthirel_tokens` meets its contract: the answer of `tokenize`, coded. Assumes nothing.
+use mathlib.Core.Path.{ap, ◌∙◌}
+use Rattle.exports.specs.Codes.{written_code}
+use Rattle.exports.proofs.Counted.{tokens_small}
+use borrow.Author.Rules.{rules}
+use Rattle.exports.proofs.tokens.yunthirel_tokens.Goals as goal
+
+pub written_code-requires : goal.written_code-requires
+written_code-requires c = tokens_small _ _ _ c.tokenize.ensures.0
+
+pub returns : goal.returns
+returns c = let w = c in (c.written_code.ensures ∙ ap written_code w.tokenize.ensures.0, w.tokenize.ensures.1)

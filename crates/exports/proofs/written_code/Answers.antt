@@ -1,0 +1,18 @@
+-- `exports::written_code` meets its contract: what was written is no longer than the longest list. Assumes nothing.
+use native.Mathlib.Omega.{arith}
+use borrow.Author.Rules.{rules}
+use mathlib.Core.Path.{sym, ap, subst, ◌∙◌}
+use Rattle.exports.specs.Codes.{Small, written_code}
+use Rattle.exports.proofs.written_code.Goals as goal
+
+pub overflow_mul-result : goal.overflow_mul-result
+overflow_mul-result c = let s = subst Small c.in-Wrote.is c.requires in omega (arith, s)
+
+pub refusal_code-requires : goal.refusal_code-requires
+refusal_code-requires c = subst Small c.in-Refused.is c.requires
+
+pub returns-in-Wrote : goal.returns-in-Wrote
+returns-in-Wrote c = ap written_code (sym c.in-Wrote.is)
+
+pub returns-in-Refused : goal.returns-in-Refused
+returns-in-Refused c = c.refusal_code.ensures ∙ ap written_code (sym c.in-Refused.is)

@@ -1,0 +1,18 @@
+-- `exports::yunthirel_has_known_root` meets its contract, answer by answer: the place of a refusal is small enough. Assumes nothing.
+use borrow.Author.Rules.{rules}
+use mathlib.Core.Path.{sym, ap, ◌∙◌}
+use Rattle.exports.specs.Codes.{known_code}
+use Rattle.exports.proofs.Bounds.{known_refused}
+use Rattle.exports.proofs.yunthirel_has_known_root.Goals as goal
+
+pub refusal_code-requires : goal.refusal_code-requires
+refusal_code-requires c =
+    let d = c in
+    let a = d.args in
+    known_refused a.word.now a.sheet.now _ _ d.has_known_root-answer.ensures c.in-Refused.is
+
+pub returns-in-Refused : goal.returns-in-Refused
+returns-in-Refused c = c.refusal_code.ensures ∙ ap known_code (sym c.in-Refused.is ∙ c.has_known_root-answer.ensures)
+
+pub returns-in-Known : goal.returns-in-Known
+returns-in-Known c = c.yes_code.ensures ∙ ap known_code (sym c.in-Known.is ∙ c.has_known_root-answer.ensures)

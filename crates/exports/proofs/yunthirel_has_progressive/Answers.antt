@@ -1,0 +1,18 @@
+-- `exports::yunthirel_has_progressive` meets its contract, answer by answer: the place of a refusal is small enough. Assumes nothing.
+use borrow.Author.Rules.{rules}
+use mathlib.Core.Path.{sym, ap, ◌∙◌}
+use Rattle.exports.specs.Codes.{supported_code}
+use Rattle.exports.proofs.Bounds.{supported-refused}
+use Rattle.exports.proofs.yunthirel_has_progressive.Goals as goal
+
+pub refusal_code-requires : goal.refusal_code-requires
+refusal_code-requires c =
+    let d = c in
+    let a = d.args in
+    supported-refused a.word.now a.sheet.now _ _ d.has_supported_progressive_form-answer.ensures c.in-Refused.is
+
+pub returns-in-Refused : goal.returns-in-Refused
+returns-in-Refused c = c.refusal_code.ensures ∙ ap supported_code (sym c.in-Refused.is ∙ c.has_supported_progressive_form-answer.ensures)
+
+pub returns-in-Given : goal.returns-in-Given
+returns-in-Given c = c.yes_code.ensures ∙ ap supported_code (sym c.in-Given.is ∙ c.has_supported_progressive_form-answer.ensures)

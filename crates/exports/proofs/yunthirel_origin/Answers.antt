@@ -1,0 +1,20 @@
+-- `exports::yunthirel_origin` meets its contract: the decision, or the refusal, whose place is small enough. Assumes nothing.
+use borrow.Author.Rules.{rules}
+use mathlib.Core.Path.{sym, ap, ◌∙◌}
+use Rattle.exports.specs.Codes.{origin_code}
+use Rattle.exports.proofs.Bounds.{decision-refused}
+use Rattle.exports.proofs.yunthirel_origin.Goals as goal
+
+pub refusal_code-requires : goal.refusal_code-requires
+refusal_code-requires c =
+    let d = c in
+    let a = d.args in
+    decision-refused a.word.now a.sheet.now _ _ d.classify_with_provenance-answer.ensures c.in-Refused.is
+
+pub returns-in-Decided : goal.returns-in-Decided
+returns-in-Decided c =
+    c.decision_code.ensures ∙ ap origin_code (sym c.in-Decided.is ∙ c.classify_with_provenance-answer.ensures)
+
+pub returns-in-Refused : goal.returns-in-Refused
+returns-in-Refused c =
+    c.refusal_code.ensures ∙ ap origin_code (sym c.in-Refused.is ∙ c.classify_with_provenance-answer.ensures)

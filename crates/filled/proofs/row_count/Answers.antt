@@ -1,0 +1,23 @@
+-- `filled::row_count` meets its contract: a list has 64 places, so it has no more rows than that. Assumes nothing.
+use Prim.Native.Nat.{◌≤◌, ◌<◌}
+use native.Mathlib.Omega.{arith}
+use mathlib.Core.Path.{◌≡◌, refl, sym, ◌∙◌}
+use lib.ListN.{length, take, length-map}
+use lib.Seq.{length-take-le, take_all}
+use Rattle.filled.proofs.row_count.Goals as goal
+
+pub returns-then-list-gt64 : goal.returns-then-list-gt64
+returns-then-list-gt64 c =
+    let l = c.args.list in
+    let h : length l.rows ≡ 64 = c.well_formed.0.1.1.0.1.0.1 in
+    let t : 64 < l.count = c.if-list-gt64.true in
+    let a : take l.count l.rows ≡ l.rows = take_all l.count l.rows (omega arith) in
+    let b : take 64 l.rows ≡ l.rows = take_all 64 l.rows (omega arith) in
+    (sym h ∙ rw a, b ∙ sym a, omega arith)
+
+pub returns : goal.returns
+returns c =
+    let l = c.args.list in
+    let h : length l.rows ≡ 64 = c.well_formed.0.1.1.0.1.0.1 in
+    let t : l.count ≤ 64 = c.if-list-gt64.false in
+    (sym (length-take-le l.count l.rows (omega arith)), refl, t)
