@@ -65,19 +65,14 @@ readings_is w s out x rows e q = ap (λ (y : Said). readings_if y rows out) e �
 pub both : {x y : Filled} {code : ℕ} {later : List ℕ} → x ≡ y → (code ≡ x.code) × (later ≡ x.buffer) → (code ≡ y.code) × (later ≡ y.buffer)
 both e (p, q) = (p ∙ ap (λ (f : Filled). f.code) e, q ∙ ap (λ (f : Filled). f.buffer) e)
 
--- six bytes stored behind the 22 at the front: `now` holds those, and `part` is what was made of the rest
-pub behind-front : (front tail old now part : List ℕ) → now ≡ front ++ drop 22 old → length front ≡ 22 → length tail ≡ 6
-    → part ≡ tail ++ drop 6 (mid_of 22 (length now - 22) now) → put_mid 22 (length now - 22) now part ≡ (front ++ tail) ++ drop 28 old
-behind-front front tail old now part e n m p =
-    let k = length now - 22 in
+-- six bytes stored behind the 22 at the front: `now` holds those, and `part` is what stands there then
+pub behind-front : (front tail old now part : List ℕ) → now ≡ front ++ drop 22 old → length front ≡ 22 → part ≡ tail
+    → put_mid 22 6 now part ≡ (front ++ tail) ++ drop 28 old
+behind-front front tail old now part e n p =
     let t : take 22 now ≡ front = ap (take 22) e ∙ take_at front (drop 22 old) 22 n in
     let u : drop 22 now ≡ drop 22 old = ap (drop 22) e ∙ drop_at front (drop 22 old) 22 n in
-    let s : length (drop 22 now) ≤ k = omega (arith, length-drop 22 now) in
-    let v : mid_of 22 k now ≡ drop 22 old = take_all k (drop 22 now) s ∙ u in
-    let z : drop k (drop 22 now) ≡ [] = drop_of_length-le (drop 22 now) s in
-    let q : part ≡ tail ++ drop 28 old = p ∙ ap (λ (l : List ℕ). tail ++ drop 6 l) v ∙ ap (λ (l : List ℕ). tail ++ l) (drop-drop 6 22 old) in
-    ap (λ (l : List ℕ). take 22 now ++ (part ++ l)) z
-    ∙ ap (λ (l : List ℕ). take 22 now ++ l) (append-nil part)
-    ∙ ap (λ (l : List ℕ). l ++ part) t
-    ∙ ap (λ (l : List ℕ). front ++ l) q
+    ap (λ (l : List ℕ). take 22 now ++ (l ++ drop 6 (drop 22 now))) p
+    ∙ ap (λ (l : List ℕ). take 22 now ++ (tail ++ drop 6 l)) u
+    ∙ ap (λ (l : List ℕ). take 22 now ++ (tail ++ l)) (drop-drop 6 22 old)
+    ∙ ap (λ (l : List ℕ). l ++ (tail ++ drop 28 old)) t
     ∙ sym (append_assoc front tail (drop 28 old))

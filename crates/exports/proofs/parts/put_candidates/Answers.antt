@@ -14,8 +14,8 @@ use Rattle.exports.proofs.parts.put_candidates.Goals as goal
 pub loop-i-init : goal.loop-i-init
 loop-i-init c =
     let b = c in
-    let l : length b.args.t1.rows ≡ 16 = b.well_formed.0.1.1.0.1.0.1 in
-    (omega arith, omega (arith, b.requires), refl, store_none candidate_bytes 33 (λ _. refl) b.args.t1.rows b.args.out.now)
+    let l : length b.args.list.rows ≡ 16 = b.well_formed.0.1.1.0.1.0.1 in
+    (omega arith, omega (arith, b.requires), refl, store_none candidate_bytes 33 (λ _. refl) b.args.list.rows b.args.out.now)
 
 pub offset_bounds-list-i : goal.offset_bounds-list-i
 offset_bounds-list-i c = omega arith
@@ -50,7 +50,7 @@ loop-i-preserved c =
       omega arith,
       l.invariant.1,
       search rules,
-      store_next candidate_bytes 33 (λ _. refl) a.t1.rows l.i no_candidate a.out.now l.out _ (omega arith) l.invariant.3 p.put_candidate.ensures,
+      store_next candidate_bytes 33 (λ _. refl) a.list.rows l.i no_candidate a.out.now l.out _ (omega arith) l.invariant.3 p.put_candidate.ensures,
     )
 
 pub shape_of-out : goal.shape_of-out
@@ -61,4 +61,4 @@ returns c =
     let l = c.loop-i in
     let a = c.args in
     let e : l.i ≡ a.n = omega arith in
-    l.invariant.3 ∙ ap (λ (k : ℕ). each candidate_bytes (take k a.t1.rows) ++ drop (33 * k) a.out.now) e
+    l.invariant.3 ∙ ap (λ (k : ℕ). each candidate_bytes (take k a.list.rows) ++ drop (33 * k) a.out.now) e

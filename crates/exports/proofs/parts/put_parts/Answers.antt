@@ -1,6 +1,7 @@
 -- `parts::put_parts` meets its contract. Assumes nothing.
+use Rattle.std.proofs.Common.{ℕ, List, ◌++◌, drop, ap}
 use borrow.Author.Rules.{rules}
 use Rattle.exports.proofs.parts.put_parts.Goals as goal
 
 pub returns : goal.returns
-returns c = c.copy.ensures.1
+returns c = ap (λ (l : List ℕ). l ++ drop 33 c.args.out.now) c.copy_from_slice.ensures.after

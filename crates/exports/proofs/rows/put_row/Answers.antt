@@ -20,11 +20,6 @@ tail-bytes r p q e = rw (p, q, e)
 
 pub returns : goal.returns
 returns c =
-    let k = c in
-    let p = k in
-    let s = p in
-    let o = s in
-    let b = o in
-    let a = b.args in
-    behind-front (reading_bytes a.row.reading) (o.origin_byte.result ∷ s.source_byte.result ∷ four_bytes b.bits_of-bits.result) a.out.now _ _ p.put_reading.ensures refl refl k.copy.ensures.1
-    ∙ ap (λ (l : List ℕ). l ++ drop 28 a.out.now) (tail-bytes a.row o.origin_byte.ensures s.source_byte.ensures b.bits_of-bits.ensures)
+    let a = c.args in
+    behind-front (reading_bytes a.row.reading) (c.origin_byte.result ∷ c.source_byte.result ∷ four_bytes c.bits_of-bits.result) a.out.now _ _ c.put_reading.ensures refl c.copy_from_slice.ensures.after
+    ∙ ap (λ (l : List ℕ). l ++ drop 28 a.out.now) (tail-bytes a.row c.origin_byte.ensures c.source_byte.ensures c.bits_of-bits.ensures)
