@@ -1,7 +1,7 @@
 -- What an accepted word and sheet give the walk. The proofs of the entries cite these. Assumes nothing.
 use Prim.Native.Nat.{ℕ, zero, suc, ◌≤◌, ◌<◌}
 use native.Mathlib.Omega.{arith}
-use mathlib.Core.Path.{◌≡◌, refl, sym, ap, ◌∙◌}
+use mathlib.Core.Path.{◌≡◌, refl, ap}
 use mathlib.Core.Bool.{Bool, true, false, not}
 use mathlib.Core.List.{List, [], ◌∷◌}
 use lib.ListN.{length, take, get_or}
@@ -14,7 +14,6 @@ use Rattle.ranking.specs.declared.Classified.{Classified}
 use Rattle.text.specs.Utf8.{is_utf8}
 use Rattle.text.specs.Names.{holds_forbidden}
 use Rattle.text.specs.Word.{word_limit, word_check}
-use Rattle.text.specs.declared.word.WordCheck.{WordCheck}
 use Rattle.text.specs.declared.word.WordCheck.TheVariants.{Accepted, TooLong, NotUtf8, Forbidden}
 
 -- an accepted word is short, and UTF-8

@@ -1,11 +1,10 @@
 -- A root added to what has been collected, or not. The proof of `with_root` cites these. Assumes nothing.
 use Prim.Native.Nat.{ℕ}
-use mathlib.Core.Path.{◌≡◌, refl}
+use mathlib.Core.Path.{◌≡◌}
 use mathlib.Core.Bool.{true, false}
-use mathlib.Core.List.{List, [], ◌∷◌}
+use mathlib.Core.List.{List}
 use Rattle.sheet.specs.Replies.{Ask}
 use Rattle.ranking.specs.Lists.{Rows, plus, plus_all}
-use Rattle.ranking.specs.declared.Reading.{Reading}
 use Rattle.paths.specs.declared.Chain.{Chain}
 use Rattle.paths.specs.declared.Prefixes.{Prefixes}
 use Rattle.paths.specs.Support.{is_supported, score_of}

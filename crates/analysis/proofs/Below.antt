@@ -1,6 +1,6 @@
 -- What a row's strip of a piece leaves, and a visit of what it leaves, as the walk says them: the proof of the walk cites these.
 -- Assumes nothing.
-use Rattle.std.proofs.Common.{◌≡◌, ℕ, ◌+◌, ◌-◌, ◌<◌, ◌≤◌, Bool, List, [], length, take, get_or, sym, ap, ◌∙◌, subst, arith, length-take-le}
+use Rattle.std.proofs.Common.{◌≡◌, ℕ, ◌+◌, ◌-◌, ◌≤◌, Bool, List, [], length, take, get_or, sym, ap, ◌∙◌, subst, arith, length-take-le}
 use Rattle.tables.specs.Tables.{affixes}
 use Rattle.strips.specs.Suffix.{rests_of}
 use Rattle.strips.specs.declared.suffix.Rests.{Rests}

@@ -2,13 +2,12 @@
 use Prim.Native.Nat.{ℕ, zero, suc, ◌+◌, ◌-◌, ◌≤◌}
 use native.Mathlib.Omega.{arith}
 use native.Mathlib.Nat.{sub-zero, zero-sub, suc-sub-suc}
-use mathlib.Core.Path.{◌≡◌, refl, sym, ap, ap₂, ◌∙◌}
+use mathlib.Core.Path.{◌≡◌, sym, ap, ap₂, ◌∙◌}
 use mathlib.Core.List.{List, [], ◌∷◌}
 use lib.ListN.{length, take, drop, length-drop}
 use lib.Seq.{length-take-le, drop-drop, take-nil}
 use Rattle.runs.specs.Runs.{pick}
 use Rattle.strips.specs.Prefix.{prefix_remainder, rest_of, behind}
-use Rattle.strips.specs.declared.prefix.Rest.{Rest}
 use Rattle.strips.specs.declared.prefix.Rest.TheVariants.{Nothing, From}
 use Rattle.strips.proofs.Remainders.{rest-says}
 use Rattle.sheet.specs.Replies.{Ask}

@@ -3,7 +3,7 @@ use Prim.Native.Nat.{ℕ, zero, suc, ◌+◌, ◌<◌, ◌≤◌}
 use native.Mathlib.Omega.{arith}
 use mathlib.Core.Path.{◌≡◌, refl, sym, ap, ◌∙◌}
 use mathlib.Core.Bool.{Bool, true, false, ◌&&◌}
-use mathlib.Core.List.{List, [], ◌∷◌, ◌++◌}
+use mathlib.Core.List.{List, [], ◌++◌}
 use lib.ListN.{length, drop, get_or, length-append, get_or-append}
 use lib.Dec.{leb, ltb}
 use borrow.Author.Tests.{leb-true, le-ltb}
@@ -14,8 +14,7 @@ use Rattle.tables.proofs.Facts.{prefix_form_count}
 use Rattle.tables.proofs.Tested.{every, at}
 use Rattle.ranking.specs.declared.Reading.{Reading}
 use Rattle.paths.specs.Chains.{all_forms, form_of}
-use Rattle.paths.specs.Walk.{on_left, over_forms}
-use Rattle.strips.specs.Prefix.{prefix_remainder}
+use Rattle.paths.specs.Walk.{over_forms}
 use Rattle.analysis.specs.Fronts.{opens_form, may_begin}
 use Rattle.analysis.proofs.Turns.{no_remainder}
 

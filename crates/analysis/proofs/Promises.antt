@@ -23,7 +23,6 @@ use Rattle.sheet.specs.Replies.{reply, Alike}
 use Rattle.refusals.specs.Refusals.{number}
 use Rattle.sheet.proofs.Refusals.{accepted-both, lowest, refused-low}
 use Rattle.ranking.specs.Lists.{list_limit, Rows, rows, over}
-use Rattle.ranking.specs.declared.Reading.{Reading}
 use Rattle.ranking.specs.declared.Classified.{Classified}
 use Rattle.paths.specs.Chains.{Route}
 use Rattle.paths.specs.Readings.{Parts, parts_of, IsReading, row_of, classified}

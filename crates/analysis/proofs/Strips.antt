@@ -6,13 +6,13 @@ use mathlib.Core.Path.{◌≡◌, refl, sym, ap, ◌∙◌}
 use mathlib.Core.Bool.{Bool, true, false, ◌&&◌}
 use mathlib.Core.List.{List, [], ◌∷◌, ◌++◌, append-nil}
 use lib.ListN.{length, take, get_or}
-use lib.Seq.{take-take, length-take-le}
+use lib.Seq.{take-take}
 use lib.Dec.{ltb}
 use Rattle.runs.specs.Runs.{pick, ends_in}
 use Rattle.tables.specs.Tables.{affixes}
 use Rattle.strips.specs.Suffix.{sheds, is_long, plain, shared, rests_of, without, first_character, plain_length, shared_length}
 use Rattle.strips.specs.declared.suffix.Rests.{Rests}
-use Rattle.strips.proofs.Remainders.{shared-front, rests_inside}
+use Rattle.strips.proofs.Remainders.{shared-front}
 use Rattle.sheet.specs.Replies.{Ask}
 use Rattle.progressive.specs.Progressive.{is_progressive}
 use Rattle.ranking.specs.Lists.{Rows, plus_all}
@@ -20,7 +20,7 @@ use Rattle.ranking.specs.declared.Reading.{Reading}
 use Rattle.paths.specs.declared.Chain.{Chain}
 use Rattle.paths.specs.Chains.{rows_after}
 use Rattle.paths.specs.Readings.{segment_of}
-use Rattle.paths.specs.Walk.{pushed_of, on_left, stem_walk, row_walk, rows_walk, piece_walk}
+use Rattle.paths.specs.Walk.{pushed_of, stem_walk, row_walk, rows_walk, piece_walk}
 use Rattle.analysis.proofs.Turns.{plus-append}
 
 -- the two remainders of a piece, by how many there are

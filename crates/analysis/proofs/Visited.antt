@@ -1,10 +1,9 @@
 -- The number of the source's entries, as the walk counts it on its way. The proofs of the walk cite these. Assumes nothing.
-use Prim.Native.Nat.{ℕ, zero, suc, ◌+◌, ◌-◌, ◌*◌, ◌<◌, ◌≤◌}
-use native.Mathlib.Nat.{add-zero}
+use Prim.Native.Nat.{ℕ, zero, suc, ◌+◌, ◌*◌, ◌<◌, ◌≤◌}
 use native.Mathlib.Omega.{arith}
 use mathlib.Core.Path.{◌≡◌, refl, sym, ap, ap₂, ◌∙◌}
 use mathlib.Core.Bool.{Bool, true, false}
-use mathlib.Core.List.{List, [], ◌∷◌, ◌++◌}
+use mathlib.Core.List.{List, [], ◌∷◌}
 use lib.ListN.{length, drop, get_or}
 use lib.Dec.{eqb}
 use borrow.Author.Tests.{ne_eqb}
@@ -17,9 +16,9 @@ use Rattle.strips.specs.Prefix.{prefix_remainder}
 use Rattle.sheet.specs.Replies.{Ask}
 use Rattle.progressive.specs.Progressive.{is_progressive}
 use Rattle.paths.specs.Chains.{all_forms, form_of, rows_after}
-use Rattle.paths.specs.Visits.{total, prefix_visits, entry, support_groups, suffix_visits, visits_of}
+use Rattle.paths.specs.Visits.{total, prefix_visits, entry, visits_of}
 use Rattle.paths.specs.Weighed.{times_after, entries_at, total_rows, row_weighed, weighed}
-use Rattle.paths.proofs.Totals.{total-none, total-one, total-append, total_zero, total_next, total-end, rows_next, rows_end}
+use Rattle.paths.proofs.Totals.{total-none, total-one, total-append, total_zero, total_next, total-end}
 use Rattle.paths.proofs.Few.{prefix_one, forms_most}
 use Rattle.paths.proofs.Weighed.{weighed_is}
 use Rattle.analysis.specs.Fronts.{may_begin}

@@ -1,8 +1,7 @@
 -- How many labels parts have: at most one prefix, and no more suffixes than SUFFIXES has rows. Cited for the room that they need and
 -- for their score. Assumes nothing.
-use mathlib.Core.Path.{◌≡◌, refl, sym, ap, ◌∙◌}
 use mathlib.Core.Bool.{Bool, true, false}
-use mathlib.Core.List.{List, [], ◌∷◌, ◌++◌}
+use mathlib.Core.List.{List, [], ◌∷◌}
 use Prim.Native.Nat.{ℕ, suc, ◌+◌, ◌≤◌}
 use native.Mathlib.Omega.{arith}
 use lib.ListN.{length, drop, length-append}
@@ -10,8 +9,7 @@ use Rattle.runs.specs.Runs.{pick}
 use Rattle.tables.specs.Rows.{prefix_forms, suffixes}
 use Rattle.tables.proofs.Facts.{suffix-count}
 use Rattle.sheet.specs.Replies.{Ask}
-use Rattle.decomposition.specs.declared.fronts.Front.{Front}
-use Rattle.decomposition.specs.Strips.{Stage, label_row, left_of, first_taken, taken, strip_row, strip_rows, least_root, leaves_word, first_front, front_at, no_front}
+use Rattle.decomposition.specs.Strips.{Stage, left_of, first_taken, taken, strip_row, strip_rows, least_root, leaves_word, first_front, front_at}
 use Rattle.decomposition.specs.Parts.{whole_stage, behind_front, decomposed_of}
 
 one_more : (k : ℕ) (rs : List (List ℕ)) (s : Stage) → length (taken k rs s).labels ≤ length s.labels + 1

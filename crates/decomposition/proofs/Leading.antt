@@ -1,8 +1,8 @@
 -- Laws of the prefix that decompose strips. The proofs of the functions of `fronts` cite these. Assumes nothing.
 use mathlib.Core.Path.{◌≡◌, refl, sym, ap, ◌∙◌}
 use mathlib.Core.Bool.{Bool, true, false, ◌&&◌}
-use mathlib.Core.List.{List, [], ◌∷◌}
-use Prim.Native.Nat.{ℕ, suc, ◌+◌, ◌-◌, ◌<◌, ◌≤◌}
+use mathlib.Core.List.{List, []}
+use Prim.Native.Nat.{ℕ, ◌+◌, ◌-◌, ◌<◌, ◌≤◌}
 use native.Mathlib.Numerals.{add-one}
 use native.Mathlib.Omega.{arith}
 use lib.ListN.{length, take, drop, get_or, drop_of_length-le, length-drop}
@@ -12,9 +12,7 @@ use Rattle.sheet.specs.Replies.{Ask}
 use Rattle.runs.proofs.Begins.{and_left}
 use Rattle.strips.proofs.Remainders.{rest-inside}
 use Rattle.strips.specs.Prefix.{leaves, after, rest_of}
-use Rattle.strips.specs.declared.prefix.Rest.{Rest}
 use Rattle.strips.specs.declared.prefix.Rest.TheVariants.{Nothing, From}
-use Rattle.decomposition.specs.declared.fronts.Front.{Front}
 use Rattle.decomposition.specs.Strips.{is_word, leaves_word, word_rest, first_front, front_at, no_front}
 
 -- a form that leaves something leaves it from its own length on

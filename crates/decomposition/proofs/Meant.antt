@@ -1,7 +1,7 @@
 -- The place of a root says the text that is meant: every remainder is a front part of the piece, so that its length is enough.
 -- Assumes nothing.
 use mathlib.Core.Path.{◌≡◌, refl, sym, ap, subst, ◌∙◌}
-use mathlib.Core.Bool.{Bool, true, false, ◌&&◌}
+use mathlib.Core.Bool.{Bool, true, false}
 use mathlib.Core.List.{List, [], ◌∷◌, ◌++◌}
 use Prim.Native.Nat.{ℕ, suc, ◌+◌, ◌-◌, ◌≤◌}
 use native.Mathlib.Omega.{arith}
@@ -14,7 +14,7 @@ use Rattle.tables.specs.Rows.{prefix_forms, suffixes}
 use Rattle.sheet.specs.Replies.{Ask}
 use Rattle.strips.specs.Suffix.{fronts}
 use Rattle.strips.specs.declared.suffix.Rests.{Rests}
-use Rattle.strips.specs.declared.prefix.Rest.TheVariants.{Nothing, From}
+use Rattle.strips.specs.declared.prefix.Rest.TheVariants.{From}
 use Rattle.strips.proofs.Remainders.{Inside}
 use Rattle.ranking.specs.Parts.{part}
 use Rattle.decomposition.specs.declared.fronts.Front.{Front}

@@ -16,7 +16,7 @@ use Rattle.decomposition.specs.declared.fronts.Front.{Front}
 use Rattle.decomposition.specs.declared.Parts.{Parts}
 use Rattle.decomposition.proofs.Leading.{lent_rest}
 use Rattle.decomposition.specs.Strips.{least_root, first_front, Stage, label_row, left_of, first_taken, taken, strip_row, strip_rows}
-use Rattle.decomposition.specs.Parts.{filled, label_limit, whole_stage, of_stage, behind_front, decomposed_of}
+use Rattle.decomposition.specs.Parts.{filled, whole_stage, of_stage, behind_front, decomposed_of}
 use Rattle.decomposition.specs.Places.{stage_of, Held, FirstLeft, stripped_of}
 
 -- Labels in an array whose unused places are 0.

@@ -1,6 +1,5 @@
 -- Decompositions worked by hand, as one list of inputs with their outcomes in texts; घरकोता is document 01's. Assumes nothing.
 use mathlib.Core.Path.{◌≡◌, refl}
-use mathlib.Core.Bool.{Bool, true, false}
 use mathlib.Core.List.{List, [], ◌∷◌, ◌++◌, map}
 use Prim.Native.Nat.{ℕ}
 use lib.ListN.{take, get_or}
@@ -12,13 +11,13 @@ use Rattle.tables.specs.Rows.{prefix_forms, prefix_labels, suffixes, strip_suffi
 use Rattle.tables.specs.Tables.{is_ii}
 use Rattle.tables.specs.Origins.{origin_of}
 use Rattle.tables.specs.declared.origins.Origin.{Origin}
-use Rattle.tables.specs.declared.origins.Origin.TheVariants.{Tatsam, Tadbhav, Deshaj, Aagantuk}
+use Rattle.tables.specs.declared.origins.Origin.TheVariants.{Tatsam, Tadbhav, Deshaj}
 use Rattle.sheet.specs.Letters.{tag_of, letters_of, well_kept, is_letters}
 use Rattle.sheet.specs.Forms.{entry_of, written, is_name, is_kind, is_meant, is_form}
 use Rattle.sheet.specs.Lines.{judged, sheet_check}
 use Rattle.sheet.specs.Replies.{reply}
-use Rattle.strips.specs.Suffix.{sheds, is_long, plain, shared, remainders, rests_of, keeps_pronoun}
-use Rattle.strips.specs.Prefix.{least_after, leaves, prefix_remainder}
+use Rattle.strips.specs.Suffix.{sheds, is_long, plain, shared, remainders, keeps_pronoun}
+use Rattle.strips.specs.Prefix.{least_after, leaves}
 use Rattle.origin.specs.Marks.{contains_one, ends_in_one, aagantuk_marks, has_aagantuk_markers, tatsam_marks, has_tatsam_markers, tadbhav_ends, has_tadbhav_markers, heuristic_of}
 use Rattle.sheet.specs.Inputs.{inputs_of}
 use Rattle.origin.specs.Decisions.{known_in, known_by, known_rest, known_under, known_stem, decision_of}

@@ -4,22 +4,18 @@ use Prim.Native.Nat.{ℕ, ◌+◌, ◌-◌, ◌≤◌, ◌<◌}
 use native.Mathlib.Omega.{arith}
 use native.Mathlib.Nat.{zero-add}
 use mathlib.Core.Path.{◌≡◌, sym, ap, subst, ◌∙◌}
-use mathlib.Core.Bool.{true}
-use mathlib.Core.List.{List, [], ◌∷◌, ◌++◌}
-use lib.ListN.{length, take, drop, length-append, length-drop, drop_of_length-le}
-use lib.Seq.{take_all, take-length, take_at}
-use lib.Dec.{leb}
+use mathlib.Core.List.{List}
+use lib.ListN.{length, take, drop, length-drop, drop_of_length-le}
+use lib.Seq.{take_all, take-length}
 use borrow.Author.Tests.{le-leb, lt-leb}
 use Rattle.runs.specs.Bytes.{slice, index_of}
-use Rattle.writing.specs.Placed.{Answer, Whole}
+use Rattle.writing.specs.Placed.{Answer}
 use Rattle.writing.specs.Refused.{refused_text}
 use Rattle.listing.specs.Texts.{listing_room}
 use Rattle.listing.specs.Printed.{readings_text, input_limit, printed}
 use Rattle.refusals.specs.Refusals.{numbers_of}
-use Rattle.refusals.specs.declared.Refusal.{Refusal}
 use Rattle.refusals.specs.declared.Refusal.TheVariants.{SheetTooLong}
 use Rattle.refusals.specs.declared.Written.{Written}
-use Rattle.refusals.specs.declared.Written.TheVariants as written
 
 -- the same text, said otherwise
 pub answer_as : {t u old new : List ℕ} {r : Written} → t ≡ u → Answer t old new r → length t ≤ listing_room → Answer u old new r × (length u ≤ listing_room)

@@ -1,12 +1,12 @@
 -- How long a text can be: of a word of at most 192 bytes, a row has at most 584 bytes and a list of 64 rows at most 37,386. Assumes
 -- nothing.
-use Prim.Native.Nat.{ℕ, zero, suc, ◌+◌, ◌-◌, ◌*◌, ◌/◌, ◌%◌, ◌≤◌, ◌<◌, min}
+use Prim.Native.Nat.{ℕ, ◌+◌, ◌-◌, ◌*◌, ◌≤◌, ◌<◌}
 use native.Mathlib.Omega.{arith}
 use native.Mathlib.Nat.{suc-mul}
-use mathlib.Core.Path.{◌≡◌, refl, sym, ap, ◌∙◌}
+use mathlib.Core.Path.{◌≡◌, refl, ap, ◌∙◌}
 use mathlib.Core.Bool.{Bool, true, false, ◌&&◌}
-use mathlib.Core.List.{List, [], ◌∷◌, ◌++◌, map}
-use lib.ListN.{length, take, drop, get_or, length-append, length-take, length-drop, length-map, get_or-eq_default}
+use mathlib.Core.List.{List, [], ◌∷◌, map}
+use lib.ListN.{length, take, drop, get_or, length-append, length-take, length-drop, get_or-eq_default}
 use lib.Dec.{ltb, leb}
 use borrow.Author.Tests.{ltb-true, ltb-false, leb-true}
 use Rattle.runs.specs.Runs.{pick}
@@ -23,7 +23,7 @@ use Rattle.strips.specs.Suffix.{first_length}
 use Rattle.paths.specs.Chains.{form_of}
 use Rattle.paths.specs.Recomposed.{in_row, written_of, surface_text}
 use Rattle.writing.specs.Refused.{refused_text}
-use Rattle.listing.specs.Texts.{kind_text, mark_text, segment_text, label_text, prefix_texts, segment_texts, reading_text, end_text, row_text, row_texts, listing_text, reading_room, row_room, listing_room}
+use Rattle.listing.specs.Texts.{kind_text, mark_text, segment_text, label_text, reading_text, end_text, row_text, row_texts, listing_text, reading_room, row_room, listing_room}
 use Rattle.writing.proofs.Sizes.{parted-size, digit-size, count-size, number_size}
 
 -- a row of a table none of whose rows is longer than m, and what stands for one that is not there

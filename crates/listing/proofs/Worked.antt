@@ -6,7 +6,7 @@ use mathlib.Core.List.{List, [], ◌∷◌}
 use Rattle.tables.specs.Rows.{prefix_labels, plural_markers, case_markers, particles}
 use Rattle.tables.specs.Tables.{affixes}
 use Rattle.ranking.specs.Parts.{part}
-use Rattle.ranking.specs.declared.AffixKind.TheVariants.{Particle, CaseMarker, Postposition}
+use Rattle.ranking.specs.declared.AffixKind.TheVariants.{Particle, CaseMarker}
 use Rattle.ranking.specs.declared.Segment.{Segment}
 use Rattle.ranking.specs.declared.Reading.{Reading}
 use Rattle.ranking.specs.declared.Classified.{Classified}

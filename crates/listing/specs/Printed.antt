@@ -1,6 +1,6 @@
 -- What is written for a word and a sheet, and what the program `readings` prints for its input (document 01, "What an entry hands
 -- back" and "Readings worked by hand"). Assumes nothing.
-use Rattle.std.specs.Prelude.{ℕ, ◌+◌, List, [], ◌∷◌, length, take, drop, leb}
+use Rattle.std.specs.Prelude.{ℕ, ◌+◌, List, length, take, drop, leb}
 use Rattle.runs.specs.Bytes.{index_of}
 use Rattle.runs.specs.Runs.{pick}
 use Rattle.ranking.specs.declared.Classified.{Classified}

@@ -1,12 +1,11 @@
 -- A word's readings depend on a sheet only through the word's own questions: `alike`. Who edits a sheet, or changes how it is asked,
 -- cites it. Assumes nothing.
-use Prim.Native.Nat.{ℕ, zero, suc, ◌+◌, ◌*◌, ◌-◌, ◌≤◌, ◌<◌}
+use Prim.Native.Nat.{ℕ, zero, suc, ◌+◌, ◌-◌, ◌≤◌, ◌<◌}
 use native.Mathlib.Omega.{arith}
 use mathlib.Core.Path.{◌≡◌, refl, sym, ap, ap₂, ◌∙◌, subst}
 use mathlib.Core.Bool.{Bool, true, false}
 use mathlib.Core.List.{List, [], ◌∷◌, ◌++◌}
 use lib.ListN.{length, drop, get_or, take-append-drop}
-use lib.Dec.{ltb}
 use Rattle.runs.specs.Runs.{pick}
 use Rattle.runs.proofs.Begins.{begins-front}
 use Rattle.text.specs.Utf8.{is_utf8}
@@ -22,7 +21,7 @@ use Rattle.progressive.specs.Progressive.{is_progressive}
 use Rattle.lookup.specs.Answers.{kind_told}
 use Rattle.ranking.specs.declared.AffixKind.{AffixKind}
 use Rattle.ranking.specs.declared.Reading.{Reading}
-use Rattle.paths.specs.Support.{is_supported, points, score_for, score_of}
+use Rattle.paths.specs.Support.{is_supported, score_for, score_of}
 use Rattle.paths.specs.Chains.{all_forms, Strip, text_of, left_by, all_rows, rows_after, form_of}
 use Rattle.paths.specs.Readings.{group_kind, overridden, kind_of, segment_of, prefixes_of}
 use Rattle.paths.specs.Walk.{empty_chain, pushed_of, record_of, root_walk, on_left, over_forms, second_walk, stem_walk, strip_walk, rows_walk, piece_walk, word_walk}

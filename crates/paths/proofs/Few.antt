@@ -1,9 +1,9 @@
 -- The number of pieces visited never passes 3,712, so never 5,000: at most two prefix forms begin a piece, at most two particles, one case
 -- marker and one plural marker end it, and each of them leaves at most two remainders. Assumes nothing.
-use Prim.Native.Nat.{ℕ, zero, suc, ◌+◌, ◌*◌, ◌<◌, ◌≤◌}
+use Prim.Native.Nat.{ℕ, suc, ◌+◌, ◌*◌, ◌≤◌}
 use native.Mathlib.Nat.{mul-le-mul_left}
 use native.Mathlib.Omega.{arith}
-use mathlib.Core.Path.{◌≡◌, refl, sym, ap, subst, ◌∙◌}
+use mathlib.Core.Path.{◌≡◌, refl, ap, ◌∙◌}
 use mathlib.Core.Bool.{Bool, true, false, ◌&&◌}
 use mathlib.Core.List.{List, [], ◌∷◌, ◌++◌}
 use lib.ListN.{length, get_or}
@@ -20,7 +20,7 @@ use Rattle.strips.specs.Prefix.{leaves, least_after, after, prefix_remainder}
 use Rattle.sheet.specs.Replies.{Ask}
 use Rattle.progressive.specs.Progressive.{is_progressive}
 use Rattle.paths.specs.Visits.{total, prefix_visits, Group, particle_group, case_group, plural_group, support_groups, entry, suffix_visits, visits_of}
-use Rattle.paths.proofs.Totals.{total-none, total_passing}
+use Rattle.paths.proofs.Totals.{total_passing}
 
 -- the lengths of the three groups, and which of their rows end one piece
 

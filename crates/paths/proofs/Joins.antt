@@ -1,21 +1,19 @@
 -- A path puts its word back together, strip by strip, and so does its reading. The promise of it cites these. Assumes nothing.
-use Prim.Native.Nat.{ℕ, zero, suc, ◌+◌, ◌≤◌}
+use Prim.Native.Nat.{ℕ, ◌≤◌}
 use native.Mathlib.Omega.{arith}
 use mathlib.Core.Path.{◌≡◌, refl, sym, ap, ap₂, ◌∙◌}
 use mathlib.Core.Bool.{Bool, true, false}
 use mathlib.Core.List.{List, [], ◌∷◌, ◌++◌, map, reverse, append_assoc, append-nil, map-append, reverse-append}
-use lib.ListN.{length, take, drop, get_or, replicate, length-map, length-reverse}
+use lib.ListN.{length, take, drop, replicate, length-map, length-reverse}
 use lib.Seq.{take-take, take_at}
 use Rattle.runs.specs.Runs.{pick}
 use Rattle.runs.proofs.Begins.{begins-front}
 use Rattle.strips.specs.Suffix.{first_length, sheds}
-use Rattle.strips.specs.Prefix.{prefix_remainder}
 use Rattle.strips.proofs.Remainders.{plain-joined, shared-joined}
 use Rattle.sheet.specs.Replies.{Ask}
 use Rattle.ranking.specs.Rank.{stem_text, root_text}
 use Rattle.ranking.specs.Stored.{no_segment}
 use Rattle.ranking.specs.declared.Segment.{Segment}
-use Rattle.ranking.specs.declared.Reading.{Reading}
 use Rattle.paths.specs.Chains.{most_strips, most_prefixes, Strip, text_of, left_by, rows_after, form_of, Suffixed, Prefixed, Route, PathOf}
 use Rattle.paths.specs.Readings.{segment_of, filled, reading_of}
 use Rattle.paths.specs.Recomposed.{in_row, written_of, prefix_forms, suffix_texts, Recomposed}

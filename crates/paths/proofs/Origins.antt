@@ -1,6 +1,6 @@
 -- The origin of a listed root asks the word's own questions alone: a root is a run of the word's whole characters, and so is each of its
 -- remainders under a suffix. Promises cites it for sheets that reply alike. Assumes nothing.
-use Prim.Native.Nat.{ℕ, zero, suc, ◌≤◌, ◌<◌, ◌+◌}
+use Prim.Native.Nat.{ℕ, suc, ◌≤◌, ◌<◌}
 use native.Mathlib.Omega.{arith}
 use mathlib.Core.Path.{◌≡◌, refl, sym, ap, ◌∙◌, subst}
 use mathlib.Core.Bool.{Bool, true, false, ◌&&◌}
@@ -12,7 +12,7 @@ use Rattle.runs.specs.Runs.{pick}
 use Rattle.text.specs.Utf8.{is_utf8}
 use Rattle.tables.specs.Rows.{strip_suffixes}
 use Rattle.tables.proofs.Facts.{strip_suffix_text, strip_suffix_count}
-use Rattle.strips.specs.Suffix.{first_length, first_character, sheds, is_long, without, plain, shared, remainders, plain_length}
+use Rattle.strips.specs.Suffix.{first_length, first_character, sheds, is_long, without, plain, shared, remainders}
 use Rattle.strips.proofs.Parts.{utf8_back}
 use Rattle.strips.proofs.First.{first_utf8}
 use Rattle.strips.proofs.Remainders.{plain-joined, shared-joined, plain-some}

@@ -18,7 +18,7 @@ use Rattle.ranking.specs.Lists.{with_origin}
 use Rattle.origin.specs.Decisions.{decision_of}
 use Rattle.origin.specs.declared.OriginDecision.{OriginDecision}
 use Rattle.paths.specs.Chains.{all_rows, most_strips, Strip, text_of, Suffixed, Route, PathOf}
-use Rattle.paths.specs.Readings.{Parts, parts_of, IsReading, segment_of, filled, reading_of, row_of, classified}
+use Rattle.paths.specs.Readings.{parts_of, IsReading, segment_of, filled, reading_of, row_of, classified}
 use Rattle.paths.specs.Rank.{ranked_before}
 use Rattle.paths.specs.Counted.{Pairwise, Distinct, AtLeast}
 use Rattle.paths.specs.Questions.{Own}

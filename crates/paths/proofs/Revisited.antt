@@ -2,21 +2,20 @@
 use Prim.Native.Nat.{ℕ, zero, suc, ◌+◌, ◌<◌}
 use native.Mathlib.Omega.{arith}
 use mathlib.Core.Path.{◌≡◌, refl, sym, ap, ap₂, ◌∙◌, subst}
-use mathlib.Core.Bool.{Bool, true, false}
+use mathlib.Core.Bool.{Bool, true}
 use mathlib.Core.List.{List, [], ◌∷◌}
 use lib.ListN.{length, get_or}
 use Rattle.runs.specs.Runs.{pick}
 use Rattle.text.specs.Utf8.{is_utf8}
-use Rattle.tables.specs.Rows.{prefix_forms, particles, case_markers, plural_markers}
+use Rattle.tables.specs.Rows.{prefix_forms}
 use Rattle.tables.specs.Tables.{affixes}
 use Rattle.tables.proofs.Facts.{prefix_form_count, affix_plural, affix_case, affix_particle}
 use Rattle.strips.specs.Suffix.{plain, shared, remainders}
 use Rattle.strips.specs.Prefix.{prefix_remainder}
 use Rattle.sheet.specs.Replies.{Ask, reply, Alike}
-use Rattle.progressive.specs.Progressive.{is_progressive}
 use Rattle.paths.specs.Chains.{all_rows, form_of}
 use Rattle.paths.specs.Questions.{Part, Own}
-use Rattle.paths.specs.Visits.{total, prefix_visits, Group, particle_group, case_group, plural_group, support_groups, entry, suffix_visits, visits_of}
+use Rattle.paths.specs.Visits.{total, prefix_visits, Group, support_groups, entry, suffix_visits, visits_of}
 use Rattle.paths.proofs.Routes.{plainly, sharing}
 use Rattle.paths.proofs.Members.{prefix_few, left-few}
 use Rattle.paths.proofs.Own.{whole_part}

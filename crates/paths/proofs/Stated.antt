@@ -2,7 +2,7 @@
 -- characters, the longer one has more characters, and two of the same length are the same bytes. Assumes nothing.
 use Prim.Native.Nat.{ℕ, ◌+◌, ◌-◌, ◌≤◌, ◌<◌}
 use native.Mathlib.Omega.{arith}
-use mathlib.Core.Path.{◌≡◌, refl, sym, ap, ap₂, ◌∙◌, subst}
+use mathlib.Core.Path.{◌≡◌, refl, sym, ap, ap₂, ◌∙◌}
 use mathlib.Core.Bool.{Bool, true, false}
 use mathlib.Core.Logic.{◌↔◌}
 use mathlib.Core.List.{List, [], ◌∷◌, ◌++◌, map, append_assoc, head-eq_of_cons-eq, tail-eq_of_cons-eq, Memᴰ}
@@ -16,7 +16,7 @@ use Rattle.runs.specs.declared.Order.TheVariants.{Less, Equal, Greater}
 use Rattle.runs.proofs.Ordered.{and_then, turned, cmp_turned, cmp_refl}
 use Rattle.text.specs.Utf8.{is_utf8}
 use Rattle.text.specs.Characters.{opens, chars}
-use Rattle.strips.proofs.Parts.{begun, utf8_begun, utf8_back}
+use Rattle.strips.proofs.Parts.{utf8_begun, utf8_back}
 use Rattle.tables.proofs.Compared.{by_order}
 use Rattle.sheet.specs.Replies.{Ask}
 use Rattle.ranking.specs.Parts.{part}

@@ -2,7 +2,7 @@
 -- number added. Assumes nothing.
 use Prim.Native.Nat.{ℕ, ◌+◌}
 use native.Mathlib.Omega.{arith}
-use mathlib.Core.Path.{◌≡◌, refl, sym, ap, ◌∙◌}
+use mathlib.Core.Path.{◌≡◌, sym, ap, ◌∙◌}
 use mathlib.Core.List.{List, [], map}
 use Rattle.sheet.specs.Replies.{Ask}
 use Rattle.ranking.specs.declared.Reading.{Reading}

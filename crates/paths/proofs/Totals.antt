@@ -1,6 +1,6 @@
 -- Numbers counted for texts one by one: `total` of Visits and `total_rows` of Weighed. Assumes nothing.
 use Prim.Native.Nat.{ℕ, zero, suc, ◌+◌, ◌*◌, ◌-◌, ◌<◌, ◌≤◌}
-use native.Mathlib.Nat.{mul-add, mul-one, mul-zero, zero-add, add-zero}
+use native.Mathlib.Nat.{mul-add, mul-one, zero-add, add-zero}
 use native.Mathlib.Numerals.{add-one}
 use native.Mathlib.Omega.{arith}
 use mathlib.Core.Path.{◌≡◌, refl, sym, ap, ap₂, ◌∙◌}

@@ -3,10 +3,10 @@
 use Prim.Native.Nat.{ℕ, zero, suc, ◌+◌, ◌*◌, ◌<◌, ◌≤◌}
 use native.Mathlib.Nat.{zero-add, le_trans, mul-le-mul, mul-le-mul_left}
 use native.Mathlib.Omega.{arith}
-use mathlib.Core.Path.{◌≡◌, refl, sym, ap, ap₂, ◌∙◌}
+use mathlib.Core.Path.{◌≡◌, sym, ap, ap₂, ◌∙◌}
 use mathlib.Core.Bool.{Bool, true, false}
 use mathlib.Core.List.{List, [], ◌∷◌}
-use lib.ListN.{length, get_or}
+use lib.ListN.{get_or}
 use lib.Dec.{ltb}
 use borrow.Author.Tests.{lt-ltb, le-ltb}
 use Rattle.runs.specs.Runs.{pick, ends_in}
@@ -17,7 +17,7 @@ use Rattle.strips.specs.Suffix.{remainders}
 use Rattle.sheet.specs.Replies.{Ask}
 use Rattle.progressive.specs.Progressive.{is_progressive}
 use Rattle.paths.specs.Chains.{rows_after}
-use Rattle.paths.specs.Visits.{total, particle_group, case_group, plural_group, support_groups, entry, suffix_visits}
+use Rattle.paths.specs.Visits.{total, case_group, plural_group, support_groups, entry, suffix_visits}
 use Rattle.paths.specs.Weighed.{times_after, entries_at, total_rows, row_weighed, weighed}
 use Rattle.paths.proofs.Totals.{total_same, total-add, rows_split, rows_table, rows-each}
 use Rattle.paths.proofs.Few.{plural_count, case_count, particle_count, text_most, entry_most}

@@ -1,6 +1,6 @@
 -- A reading is a stem, a root, prefix labels and suffix labels for which a path exists (document 01). Here: a path's reading as
 -- labels, and as the record that the code gives. Assumes nothing.
-use Rattle.std.specs.Prelude.{ℕ, ◌-◌, ◌≡◌, Bool, true, false, List, [], ◌∷◌, ◌++◌, map, reverse, length, take, get_or, replicate, ltb}
+use Rattle.std.specs.Prelude.{ℕ, ◌-◌, ◌≡◌, List, [], ◌++◌, map, reverse, length, take, get_or, replicate, ltb}
 use Rattle.runs.specs.Runs.{pick}
 use Rattle.text.specs.Characters.{chars}
 use Rattle.tables.specs.Rows.{prefix_labels}

@@ -1,7 +1,6 @@
 -- Which roots are supported, and how a reading scores (document 01, "Strips, readings, rank"), said of replies. Assumes nothing.
-use Rattle.std.specs.Prelude.{ℕ, zero, suc, ◌+◌, ◌*◌, Bool, true, false, not, ◌&&◌, ◌||◌, List, [], ◌∷◌, ◌++◌, length, eqb, ltb}
+use Rattle.std.specs.Prelude.{ℕ, ◌+◌, ◌*◌, Bool, false, not, ◌&&◌, ◌||◌, List, [], ◌∷◌, ◌++◌, length, eqb, ltb}
 use Rattle.runs.specs.Runs.{pick}
-use Rattle.text.specs.Characters.{chars}
 use Rattle.tables.specs.Tables.{affixes}
 use Rattle.sheet.specs.Replies.{Ask, letters_by}
 use Rattle.progressive.specs.Progressive.{is_progressive}

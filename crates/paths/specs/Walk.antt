@@ -1,6 +1,6 @@
 -- The readings in the order in which the code finds them: that of their paths. proofs/ shows that these are the readings of the
 -- word's paths, each once. The walk is said for any number handed in as the characters of the surface. Assumes nothing.
-use Rattle.std.specs.Prelude.{ℕ, zero, suc, ◌+◌, ◌-◌, Bool, true, false, List, [], ◌∷◌, ◌++◌, length, take, get_or}
+use Rattle.std.specs.Prelude.{ℕ, zero, suc, ◌+◌, ◌-◌, true, false, List, [], ◌∷◌, ◌++◌, length, get_or}
 use Rattle.runs.specs.Runs.{pick}
 use Rattle.strips.specs.Prefix.{prefix_remainder}
 use Rattle.sheet.specs.Replies.{Ask}

@@ -1,5 +1,5 @@
 -- The list of readings in rank order, and where it stops: at more than 64. Assumes nothing.
-use Rattle.std.specs.Prelude.{ℕ, Bool, true, false, List, [], ◌∷◌, length, take, ltb}
+use Rattle.std.specs.Prelude.{ℕ, List, [], ◌∷◌, length, take, ltb}
 use Rattle.runs.specs.Runs.{pick}
 use Rattle.ranking.specs.Rank.{ahead_of}
 use Rattle.ranking.specs.declared.Reading.{Reading}

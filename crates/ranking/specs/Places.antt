@@ -1,5 +1,5 @@
 -- Where a reading is put in, and how: the two halves of `ranked`. Assumes nothing.
-use Rattle.std.specs.Prelude.{ℕ, zero, suc, Bool, List, [], ◌∷◌}
+use Rattle.std.specs.Prelude.{ℕ, zero, suc, List, [], ◌∷◌}
 use Rattle.runs.specs.Runs.{pick}
 use Rattle.ranking.specs.Rank.{ahead_of}
 use Rattle.ranking.specs.Lists.{with_origin}

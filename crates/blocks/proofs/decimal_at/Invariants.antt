@@ -1,7 +1,5 @@
 -- `blocks::decimal_at` meets its contract: the number stays small, and the place inside. Assumes nothing.
 use Prim.Native.Nat.{◌-◌, ◌≤◌}
-use native.Mathlib.Omega.{arith}
-use borrow.Author.Rules.{rules}
 use lib.ListN.{length}
 use Rattle.blocks.proofs.decimal_at.Given as goal
 

@@ -5,7 +5,6 @@ use Rattle.origin.specs.declared.OriginDecision.{OriginDecision}
 use Rattle.decomposition.specs.declared.Parts.{Parts}
 use Rattle.decomposition.specs.declared.Morpheme.{Morpheme}
 use Rattle.decomposition.specs.Parts.{morpheme_of}
-use borrow.Author.Rules.{rules}
 use Rattle.decomposition.proofs.decompose_word.Goals as goal
 
 same_morpheme : {p q : Parts} {o u : Origin} → p ≡ q → o ≡ u → ◌≡◌ {A = Morpheme} (record { parts = p; origin = o }) (record { parts = q; origin = u })

@@ -1,7 +1,6 @@
 -- `decomposed` meets its contract. Assumes nothing.
 use Rattle.sheet.specs.Replies.{reply}
 use Rattle.decomposition.proofs.Stages.{decomposed_is}
-use borrow.Author.Rules.{rules}
 use Rattle.decomposition.proofs.decomposed.Goals as goal
 
 pub returns : goal.returns

@@ -1,5 +1,4 @@
 -- `ranking::part_of` meets its contract, test by test. Assumes nothing.
-use borrow.Author.Rules.{rules}
 use borrow.Author.Tests.{le-leb, lt-leb}
 use Rattle.ranking.specs.Parts.{part}
 use Rattle.ranking.proofs.part_of.Goals as goal

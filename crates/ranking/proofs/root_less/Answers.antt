@@ -1,8 +1,5 @@
 -- `ranking::root_less` meets its contract: the order of the two roots, case by case. Assumes nothing.
-use borrow.Author.Rules.{rules}
 use mathlib.Core.Path.{◌≡◌, sym, ap, ◌∙◌}
-use mathlib.Core.List.{List}
-use Prim.Native.Nat.{ℕ}
 use Rattle.runs.specs.Runs.{cmp}
 use Rattle.ranking.specs.Rank.{is_less, root_text}
 use Rattle.ranking.proofs.root_less.Goals as goal

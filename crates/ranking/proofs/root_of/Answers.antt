@@ -1,8 +1,5 @@
 -- `ranking::root_of` meets its contract: the part of the word from the root on. Assumes nothing.
-use Prim.Native.Nat.{ℕ}
-use mathlib.Core.Path.{◌≡◌, ap, ◌∙◌}
-use borrow.Author.Rules.{rules}
-use Rattle.ranking.specs.Parts.{part}
+use mathlib.Core.Path.{◌∙◌}
 use Rattle.ranking.proofs.root_of.Goals as goal
 
 pub returns : goal.returns

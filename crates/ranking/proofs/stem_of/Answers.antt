@@ -1,7 +1,6 @@
 -- `ranking::stem_of` meets its contract: the front part of the word. Assumes nothing.
 use Prim.Native.Nat.{ℕ}
-use mathlib.Core.Path.{◌≡◌, ap, ◌∙◌}
-use borrow.Author.Rules.{rules}
+use mathlib.Core.Path.{ap, ◌∙◌}
 use Rattle.ranking.specs.Parts.{part}
 use Rattle.ranking.proofs.stem_of.Goals as goal
 

@@ -1,6 +1,5 @@
 -- `analysis::entry::analyze_affixes_in` meets its contract: the refusal of the word, or the list by the accepted sheet. Assumes nothing.
 use Prim.Native.Nat.{ℕ}
-use borrow.Author.Rules.{rules}
 use mathlib.Core.Path.{◌≡◌, sym, ap, ◌∙◌}
 use mathlib.Core.List.{List}
 use lib.ListN.{length}

@@ -1,7 +1,6 @@
 -- `analysis::entry::answered` meets its contract: the starts stored of an accepted sheet stand for it, and a refusal is the lowest that
 -- applies. Assumes nothing.
-use Prim.Native.Nat.{ℕ, ◌≤◌}
-use borrow.Author.Rules.{rules}
+use Prim.Native.Nat.{ℕ}
 use mathlib.Core.Path.{◌≡◌, sym, ap, ◌∙◌}
 use mathlib.Core.List.{List}
 use lib.ListN.{length}

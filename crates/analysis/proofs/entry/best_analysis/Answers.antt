@@ -1,8 +1,7 @@
 -- `analysis::entry::best_analysis` meets its contract: the first of the rows, if there is one. Assumes nothing.
-use mathlib.Core.Path.{◌≡◌, ap, ◌∙◌}
+use mathlib.Core.Path.{ap, ◌∙◌}
 use mathlib.Core.List.{List}
 use lib.ListN.{take}
-use borrow.Author.Rules.{rules}
 use Rattle.ranking.specs.declared.Classified.{Classified}
 use Rattle.analysis.proofs.entry.best_analysis.Goals as goal
 

@@ -1,9 +1,7 @@
 -- `analysis::entry::first_of` meets its contract: a list has 64 rows, of which the first `count` are those listed. Assumes nothing.
-use Prim.Native.Nat.{ℕ}
 use mathlib.Core.Path.{◌≡◌}
 use native.Mathlib.Omega.{arith}
-use lib.ListN.{length, length-map}
-use borrow.Author.Rules.{rules}
+use lib.ListN.{length}
 use Rattle.analysis.proofs.Accepted.{first-row}
 use Rattle.analysis.proofs.entry.first_of.Goals as goal
 

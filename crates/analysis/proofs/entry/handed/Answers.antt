@@ -1,10 +1,8 @@
 -- `analysis::entry::handed` meets its contract: too many, or the list. Assumes nothing.
 use native.Mathlib.Omega.{arith}
-use mathlib.Core.Path.{◌≡◌, refl, sym, ap, ◌∙◌}
-use mathlib.Core.List.{List, map}
+use mathlib.Core.Path.{refl, sym, ap, ◌∙◌}
 use lib.ListN.{length, take, length-map}
 use lib.Seq.{length-take-le}
-use borrow.Author.Rules.{rules}
 use Rattle.sheet.specs.Replies.{reply}
 use Rattle.ranking.specs.Kept.{rows_in}
 use Rattle.ranking.proofs.Backs.{rows-length}

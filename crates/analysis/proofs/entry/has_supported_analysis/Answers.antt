@@ -1,11 +1,9 @@
 -- `analysis::entry::has_supported_analysis` meets its contract, answer by answer. Assumes nothing.
 use Prim.Native.Nat.{ℕ}
 use mathlib.Core.Path.{◌≡◌, sym, ap, ◌∙◌}
-use mathlib.Core.Bool.{Bool}
 use mathlib.Core.List.{List}
-use borrow.Author.Rules.{rules}
 use Rattle.analysis.specs.declared.entry.Said.{Said}
-use Rattle.analysis.specs.Answers.{said_of, rows_given, is_some, has_by, has_of}
+use Rattle.analysis.specs.Answers.{said_of, rows_given, has_by, has_of}
 use Rattle.analysis.proofs.Accepted.{some-rows}
 use Rattle.analysis.proofs.entry.has_supported_analysis.Goals as goal
 use Rattle.analysis.proofs.entry.has_supported_analysis.Goals.{After-best_analysis-best}

@@ -1,11 +1,9 @@
 -- `analysis::entry::is_seven` meets its contract, by the numbers. Assumes nothing.
 use Prim.Native.Nat.{ℕ}
-use mathlib.Core.Path.{◌≡◌, sym, ap, ◌∙◌}
-use mathlib.Core.List.{List, [], ◌∷◌, head-eq_of_cons-eq}
+use mathlib.Core.Path.{sym, ap, ◌∙◌}
+use mathlib.Core.List.{head-eq_of_cons-eq}
 use lib.Dec.{eqb}
-use borrow.Author.Rules.{rules}
-use Rattle.refusals.specs.Refusals.{number, numbers_of, numbers_told}
-use Rattle.refusals.specs.declared.Numbers.{Numbers}
+use Rattle.refusals.specs.Refusals.{numbers_told}
 use Rattle.analysis.proofs.entry.is_seven.Goals as goal
 
 -- the first of the numbers is the refusal's

@@ -19,7 +19,6 @@ use Rattle.paths.specs.Weighed.{weighed}
 use Rattle.paths.proofs.Score.{chars_most}
 use Rattle.analysis.proofs.Visited.{word_visits}
 use Rattle.analysis.proofs.Accepted.{word-parts}
-use borrow.Author.Rules.{rules}
 use Rattle.analysis.proofs.entry.keep_readings.Goals as goal
 use Rattle.analysis.proofs.entry.keep_readings.Goals.{After-count-surface}
 

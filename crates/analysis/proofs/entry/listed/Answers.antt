@@ -3,7 +3,6 @@ use mathlib.Core.Path.{ap, ◌∙◌}
 use lib.ListN.{length}
 use Rattle.sheet.specs.Replies.{reply}
 use Rattle.analysis.specs.Answers.{by_rows, listed_rows}
-use borrow.Author.Rules.{rules}
 use Rattle.analysis.proofs.entry.listed.Goals as goal
 
 pub returns : goal.returns

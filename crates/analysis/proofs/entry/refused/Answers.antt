@@ -1,5 +1,5 @@
 -- `analysis::entry::refused` meets its contract: nothing is listed. Assumes nothing.
-use mathlib.Core.Path.{◌≡◌, refl}
+use mathlib.Core.Path.{refl}
 use Rattle.analysis.proofs.entry.refused.Goals as goal
 
 pub returns : goal.returns

@@ -3,10 +3,8 @@ use Prim.Native.Nat.{ℕ}
 use mathlib.Core.Path.{◌≡◌, sym, ap, ap₂, ◌∙◌}
 use mathlib.Core.Bool.{Bool}
 use mathlib.Core.List.{List}
-use borrow.Author.Rules.{rules}
 use Rattle.runs.specs.Runs.{pick}
 use Rattle.analysis.specs.declared.entry.Said.{Said}
-use Rattle.analysis.specs.declared.entry.Visits.{Visits}
 use Rattle.analysis.specs.declared.entry.Visits.TheVariants as visits
 use Rattle.analysis.specs.Answers.{said_of, visits_given, visits_answer}
 use Rattle.analysis.proofs.Promises.{visits_said, visits-said}

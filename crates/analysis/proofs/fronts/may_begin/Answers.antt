@@ -1,10 +1,6 @@
 -- `analysis::fronts::may_begin` meets its contract: by the length, then by the third byte. Assumes nothing.
-use borrow.Author.Rules.{rules}
 use borrow.Author.Tests.{lt-ltb, le-ltb}
-use mathlib.Core.Path.{◌≡◌, sym, ap, ◌∙◌}
-use mathlib.Core.Bool.{Bool, false}
-use Rattle.runs.specs.Runs.{pick}
-use Rattle.analysis.specs.Fronts.{opens_form, may_begin}
+use Rattle.analysis.specs.Fronts.{may_begin}
 use Rattle.analysis.proofs.fronts.may_begin.Goals as goal
 
 pub returns-then-piece-lt3 : goal.returns-then-piece-lt3

@@ -1,8 +1,5 @@
 -- `origins::classify_root` meets its contract: the decision is asked of the reading's root. Assumes nothing.
-use Prim.Native.Nat.{ℕ}
-use mathlib.Core.Path.{◌≡◌, ap, ◌∙◌}
-use mathlib.Core.List.{List}
-use borrow.Author.Rules.{rules}
+use mathlib.Core.Path.{ap, ◌∙◌}
 use Rattle.sheet.specs.Replies.{reply}
 use Rattle.ranking.specs.Lists.{with_origin}
 use Rattle.origin.specs.Decisions.{decision_of}

@@ -1,9 +1,8 @@
 -- `analysis::prefixes::begins` meets its contract: the row is the form. Assumes nothing.
-use Prim.Native.Nat.{ℕ, ◌<◌}
+use Prim.Native.Nat.{ℕ}
 use native.Mathlib.Omega.{arith}
-use mathlib.Core.Path.{◌≡◌, ap, ◌∙◌}
+use mathlib.Core.Path.{ap, ◌∙◌}
 use mathlib.Core.List.{List}
-use borrow.Author.Rules.{rules}
 use Rattle.runs.specs.Runs.{begins_with}
 use Rattle.tables.proofs.Facts.{prefix_form_count}
 use Rattle.tables.proofs.Laid.{laid-asks, laid-row}

@@ -1,21 +1,17 @@
 -- `analysis::prefixes::first_row` meets its contract: nothing is left, or the root's reading and those of a second prefix are added. Assumes nothing.
-use Prim.Native.Nat.{ℕ, ◌+◌, ◌-◌, ◌<◌, ◌≤◌}
+use Prim.Native.Nat.{ℕ, ◌≤◌}
 use native.Mathlib.Omega.{arith}
-use mathlib.Core.Path.{◌≡◌, refl, sym, ap, ◌∙◌}
+use mathlib.Core.Path.{◌≡◌, sym, ap, ◌∙◌}
 use mathlib.Core.List.{List, [], ◌∷◌}
-use lib.ListN.{length, take, drop}
+use lib.ListN.{length, take}
 use lib.Seq.{length-take-le}
-use Rattle.tables.specs.Rows.{prefix_forms}
 use Rattle.tables.proofs.Facts.{prefix_form_count}
 use Rattle.tables.proofs.Laid.{laid-asks, laid-row}
 use Rattle.strips.specs.Prefix.{prefix_remainder, rest_of}
-use Rattle.strips.specs.declared.prefix.Rest.{Rest}
-use Rattle.strips.specs.declared.prefix.Rest.TheVariants.{Nothing, From}
 use Rattle.strips.proofs.Remainders.{rest-inside}
 use Rattle.sheet.specs.Replies.{reply}
 use Rattle.ranking.specs.Lists.{Rows, plus_all}
 use Rattle.ranking.specs.Kept.{kept_of}
-use Rattle.ranking.specs.declared.Reading.{Reading}
 use Rattle.paths.specs.Chains.{all_forms, form_of}
 use Rattle.paths.specs.Walk.{root_walk, on_left, second_walk}
 use Rattle.paths.specs.Readings.{prefixes_of}
@@ -26,7 +22,6 @@ use Rattle.analysis.proofs.Opened.{no-forms}
 use Rattle.paths.specs.Visits.{total, prefix_visits}
 use Rattle.analysis.proofs.Visited.{left-none, left_one, prefix_none, prefix_bare, prefix_some, second_few}
 use borrow.Author.Rules.{rules}
-use borrow.Author.Tests.{not-true}
 use Rattle.analysis.proofs.prefixes.first_row.Goals as goal
 use Rattle.analysis.proofs.prefixes.first_row.Lts.View.{up-In-From}
 use Rattle.analysis.proofs.prefixes.first_row.Goals.{After-prefix_rest-rest, After-with_root-f, In-From}

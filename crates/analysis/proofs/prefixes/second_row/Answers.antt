@@ -1,27 +1,22 @@
 -- `analysis::prefixes::second_row` meets its contract: what the form leaves is the root, or nothing is added. Assumes nothing.
-use Prim.Native.Nat.{ℕ, ◌+◌, ◌-◌, ◌<◌, ◌≤◌}
+use Prim.Native.Nat.{ℕ, ◌+◌, ◌-◌, ◌≤◌}
 use native.Mathlib.Omega.{arith}
-use mathlib.Core.Path.{◌≡◌, refl, sym, ap, ◌∙◌}
+use mathlib.Core.Path.{◌≡◌, sym, ap, ◌∙◌}
 use mathlib.Core.List.{List, [], ◌∷◌}
-use lib.ListN.{length, take, drop, get_or}
-use Rattle.tables.specs.Rows.{prefix_forms}
+use lib.ListN.{length, take}
 use Rattle.tables.proofs.Facts.{prefix_form_count}
 use Rattle.tables.proofs.Laid.{laid-asks, laid-row}
-use Rattle.strips.specs.Prefix.{prefix_remainder, rest_of}
-use Rattle.strips.specs.declared.prefix.Rest.{Rest}
-use Rattle.strips.specs.declared.prefix.Rest.TheVariants.{Nothing, From}
+use Rattle.strips.specs.Prefix.{rest_of}
 use Rattle.strips.proofs.Remainders.{rest-inside}
 use Rattle.sheet.specs.Replies.{reply}
 use Rattle.ranking.specs.Lists.{plus_all}
 use Rattle.ranking.specs.Kept.{kept_of}
-use Rattle.ranking.specs.declared.Reading.{Reading}
 use Rattle.paths.specs.Chains.{form_of}
 use Rattle.paths.specs.Walk.{root_walk, on_left}
 use Rattle.analysis.specs.Places.{between}
 use Rattle.analysis.proofs.Cuts.{none_left, one_left, root_at, between-length}
 use Rattle.paths.specs.Visits.{prefix_visits}
 use Rattle.analysis.proofs.Visited.{left-none, left_one, prefix_last}
-use borrow.Author.Rules.{rules}
 use Rattle.analysis.proofs.prefixes.second_row.Goals as goal
 use Rattle.analysis.proofs.prefixes.second_row.Goals.{After-prefix_rest-rest, In-From}
 

@@ -1,19 +1,12 @@
 -- `analysis::prefixes::second_rows` meets its contract: what all rows add is what those to come add to what has been collected. Assumes nothing.
-use Prim.Native.Nat.{ℕ, ◌+◌, ◌-◌, ◌<◌, ◌≤◌}
 use native.Mathlib.Omega.{arith}
-use mathlib.Core.Path.{◌≡◌, refl, sym, ◌∙◌}
-use mathlib.Core.List.{List, [], ◌∷◌}
-use lib.ListN.{length, take}
+use mathlib.Core.Path.{refl, sym, ◌∙◌}
 use borrow.Author.Rules.{rules}
 use Rattle.paths.specs.Visits.{prefix_visits}
-use Rattle.analysis.proofs.Visited.{Counted, visits_turn, visits_pass, visits_end, second_few}
+use Rattle.analysis.proofs.Visited.{visits_turn, visits_pass, visits_end, second_few}
 use Rattle.paths.specs.Chains.{all_forms}
 use Rattle.sheet.specs.Replies.{reply}
-use Rattle.ranking.specs.Lists.{list_limit, plus_all}
 use Rattle.ranking.specs.Kept.{kept_of}
-use Rattle.ranking.specs.declared.Reading.{Reading}
-use Rattle.paths.specs.declared.Chain.{Chain}
-use Rattle.paths.specs.Walk.{root_walk, over_forms}
 use Rattle.analysis.specs.Places.{between}
 use Rattle.analysis.proofs.Turns.{form_turn, form_pass, form-end}
 use Rattle.analysis.proofs.prefixes.second_rows.Invariants.{each}

@@ -1,11 +1,9 @@
 -- `analysis::prefixes::with_stem` meets its contract: the stem's own reading, and those of its prefixes. Assumes nothing.
-use Prim.Native.Nat.{ℕ, ◌≤◌}
 use native.Mathlib.Omega.{arith}
 use mathlib.Core.Path.{◌≡◌, sym, ap, ◌∙◌}
-use mathlib.Core.List.{List, []}
+use mathlib.Core.List.{[]}
 use lib.ListN.{take}
 use lib.Seq.{length-take-le}
-use borrow.Author.Tests.{not-true}
 use Rattle.paths.specs.Chains.{all_forms}
 use Rattle.sheet.specs.Replies.{reply}
 use Rattle.progressive.specs.Progressive.{is_progressive}

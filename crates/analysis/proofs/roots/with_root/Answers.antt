@@ -1,14 +1,10 @@
 -- `analysis::roots::with_root` meets its contract: the root's support decides, and its reading is kept. Assumes nothing.
-use Prim.Native.Nat.{ℕ, ◌-◌}
-use native.Mathlib.Omega.{arith}
-use borrow.Author.Rules.{rules}
-use borrow.Author.Tests.{not-true, not-false}
 use mathlib.Core.Path.{◌≡◌, sym, ap, ◌∙◌}
-use lib.ListN.{length, take, drop}
+use lib.ListN.{length}
 use Rattle.sheet.specs.Replies.{reply}
-use Rattle.paths.specs.Support.{is_supported, score_of}
+use Rattle.paths.specs.Support.{is_supported}
 use Rattle.analysis.specs.Places.{between}
-use Rattle.analysis.specs.Supports.{supports, support_of, score_from}
+use Rattle.analysis.specs.Supports.{supports, score_from}
 use Rattle.analysis.specs.declared.support.Support.{Support}
 use Rattle.analysis.proofs.Supported.{supports_is, score_is}
 use Rattle.analysis.proofs.Added.{no-root, one-root}

@@ -1,13 +1,13 @@
 -- `suffixes::visit` and `below`, which call each other, meet their contracts: a piece's readings are those of its stem and of its rows, a
 -- row's those of what it leaves. The strips left fall with each call. Assumes nothing.
-use Rattle.std.proofs.Common.{◌≡◌, ℕ, suc, ◌+◌, ◌-◌, ◌*◌, ◌<◌, ◌≤◌, Bool, true, false, List, [], length, take, get_or, refl, sym, ap, ◌∙◌, rules, arith}
+use Rattle.std.proofs.Common.{◌≡◌, ℕ, suc, ◌+◌, ◌-◌, ◌<◌, ◌≤◌, true, false, List, [], take, get_or, refl, sym, ap, ◌∙◌, arith}
 use native.Mathlib.Nat.{sub-zero}
 use Rattle.tables.specs.Tables.{affixes}
 use Rattle.tables.proofs.Facts.{affix_count}
 use Rattle.tables.proofs.Laid.{laid-asks, laid-row}
 use Rattle.strips.specs.Suffix.{rests_of}
 use Rattle.sheet.specs.Replies.{reply}
-use Rattle.ranking.specs.Lists.{Rows, plus_all}
+use Rattle.ranking.specs.Lists.{plus_all}
 use Rattle.ranking.specs.Kept.{kept_of}
 use Rattle.paths.specs.Walk.{piece_walk}
 use Rattle.paths.specs.Weighed.{row_weighed, weighed, total_rows}
@@ -78,7 +78,7 @@ pub below-overflow_add-result : goal.below-overflow_add-result
 below-overflow_add-result t c =
     let a = c.args in
     let few : (d rows times : ℕ) (left : List ℕ) → d ≤ 4 → rows ≤ 18 → times ≤ 2 → weighed d (reply a.sheet.now) rows times left ≤ 200000000 =
-      λ d rows times left h e q. weighed-fits (reply a.sheet.now) d rows times left h (omega (arith, e)) q in
+    λ d rows times left h e q. weighed-fits (reply a.sheet.now) d rows times left h (omega (arith, e)) q in
     omega (
       arith,
       c.visit-f.ensures.2,
@@ -112,7 +112,6 @@ below-returns t c =
           (visited_count ask a.at.chain a.k _ k.ensures false _ q.ensures rows.result times.result _ c.visit-f.ensures.2) _ _ (l.1 ∙ j)
           (visited_count ask a.at.chain a.k _ k.ensures true _ m.ensures rows.result times.result _ c.visit-g.ensures.2),
     )
-
 
 -- what an entry counts is at most 8
 each-few : (t : ℕ) (c : visit-After-with_stem-stem t) → c.with_stem-stem.result.visits ≤ 7
@@ -214,7 +213,7 @@ visit-loop-k-preserved t c =
       omega (
         arith,
         turned (row_weighed (weighed (3 - a.at.chain.count) ask) a.at.times p) _ _ l.k a.at.rows 0 c.loop-k-test.true l.invariant.4
-        (sym (row_zero_ends (weighed (3 - a.at.chain.count) ask) a.at.times p l.k n)),
+            (sym (row_zero_ends (weighed (3 - a.at.chain.count) ask) a.at.times p l.k n)),
       ),
     )
 

@@ -2,7 +2,7 @@
 use Prim.Native.Nat.{◌*◌, ◌≤◌}
 use native.Mathlib.Nat.{mul-le-mul}
 use native.Mathlib.Omega.{arith}
-use mathlib.Core.Path.{◌≡◌, refl}
+use mathlib.Core.Path.{refl}
 use Rattle.analysis.proofs.suffixes.counted.Goals as goal
 use Rattle.analysis.proofs.suffixes.counted.Goals.{Start}
 

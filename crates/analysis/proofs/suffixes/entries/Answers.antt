@@ -1,6 +1,5 @@
 -- `analysis::suffixes::entries` meets its contract, test by test. Assumes nothing.
 use native.Mathlib.Omega.{arith}
-use borrow.Author.Rules.{rules}
 use borrow.Author.Tests.{lt-ltb, le-ltb}
 use Rattle.analysis.proofs.suffixes.entries.Goals as goal
 

@@ -1,10 +1,8 @@
 -- `analysis::suffixes::kind_at` meets its contract: the kind line's kind, else the group's. Assumes nothing.
-use Prim.Native.Nat.{◌<◌}
 use native.Mathlib.Omega.{arith}
-use borrow.Author.Rules.{rules}
 use mathlib.Core.Path.{◌≡◌, sym, ap, ◌∙◌}
 use mathlib.Core.List.{[]}
-use lib.ListN.{length, get_or}
+use lib.ListN.{get_or}
 use Rattle.tables.specs.Tables.{affixes}
 use Rattle.tables.proofs.Facts.{affix_count}
 use Rattle.tables.proofs.Laid.{laid-asks, laid-row}

@@ -1,16 +1,11 @@
 -- `analysis::support::has_sibling` meets its contract: some text gives a known name where one of those to come does. Assumes nothing.
-use Prim.Native.Nat.{ℕ, ◌-◌, ◌<◌, ◌≤◌}
-use native.Mathlib.Omega.{arith}
-use mathlib.Core.Path.{◌≡◌, refl, sym, ap, ◌∙◌}
-use mathlib.Core.List.{List, [], ◌++◌}
-use lib.ListN.{length, drop, get_or}
+use Prim.Native.Nat.{◌-◌, ◌≤◌}
+use mathlib.Core.Path.{◌≡◌}
+use lib.ListN.{drop}
 use Rattle.paths.specs.Chains.{all_rows}
 use Rattle.tables.specs.Tables.{affixes}
-use Rattle.tables.proofs.Facts.{affix_count}
-use Rattle.tables.proofs.Laid.{laid-asks, laid-row}
 use Rattle.sheet.specs.Replies.{reply}
-use Rattle.paths.specs.Support.{is_known, known_with}
-use Rattle.analysis.proofs.Siblings.{known_here, known_next, known_end}
+use Rattle.paths.specs.Support.{known_with}
 use Rattle.analysis.proofs.support.has_sibling.Given as goal
 
 abbrev pub invariant-loop-k : goal.invariant-loop-k

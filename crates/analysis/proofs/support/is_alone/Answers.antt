@@ -1,5 +1,4 @@
 -- `analysis::support::is_alone` meets its contract, test by test. Assumes nothing.
-use borrow.Author.Rules.{rules}
 use borrow.Author.Tests.{le-leb, lt-leb}
 use Rattle.analysis.proofs.support.is_alone.Goals as goal
 

@@ -1,6 +1,6 @@
 -- `analysis::support::is_known` meets its contract: by w, else by h. Assumes nothing.
-use mathlib.Core.Path.{◌≡◌, sym, ap, ◌∙◌}
-use mathlib.Core.Bool.{Bool, true, false, ◌||◌}
+use mathlib.Core.Path.{sym, ap, ◌∙◌}
+use mathlib.Core.Bool.{Bool, ◌||◌}
 use Rattle.sheet.specs.Replies.{letters_for}
 use Rattle.sheet.specs.declared.letters.Letters.{Letters}
 use Rattle.analysis.proofs.support.is_known.Goals as goal

@@ -1,13 +1,11 @@
 -- `entries::answered` meets its contract: the starts stored of an accepted sheet stand for it, and a refusal is the lowest that applies. Assumes nothing.
-use Prim.Native.Nat.{ℕ, ◌≤◌}
-use mathlib.Core.Path.{◌≡◌, refl, sym, ap, ◌∙◌}
+use Prim.Native.Nat.{ℕ}
+use mathlib.Core.Path.{sym, ap, ◌∙◌}
 use mathlib.Core.List.{List}
-use lib.ListN.{length}
 use lib.Seq.{length-take-le}
 use Rattle.lookup.proofs.Readied.{said-refused, indexed}
 use Rattle.sheet.specs.declared.inputs.Inputs.{Inputs}
 use Rattle.decomposition.specs.Answers.{morpheme_if, morpheme_answer}
-use borrow.Author.Rules.{rules}
 use Rattle.decomposition.proofs.entries.answered.Goals as goal
 use Rattle.decomposition.proofs.entries.answered.Goals.{After-prepare_sheet-ready}
 

@@ -8,7 +8,6 @@ use Rattle.decomposition.specs.Answers.{morpheme_if, morpheme_answer}
 use Rattle.decomposition.specs.declared.Morpheme.{Morpheme}
 use Rattle.decomposition.specs.declared.entries.MorphemeAnswer.{MorphemeAnswer}
 use Rattle.decomposition.proofs.Short.{word-short}
-use borrow.Author.Rules.{rules}
 use Rattle.decomposition.proofs.entries.decompose_in.Goals as goal
 use Rattle.decomposition.proofs.entries.decompose_in.Goals.{After-prepare_word-inputs}
 

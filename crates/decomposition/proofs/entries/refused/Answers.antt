@@ -1,6 +1,5 @@
 -- `entries::refused` meets its contract: nothing beside the refusal. Assumes nothing.
 use mathlib.Core.Path.{◌≡◌}
-use borrow.Author.Rules.{rules}
 use Rattle.sheet.specs.declared.inputs.Inputs.{Inputs}
 use Rattle.decomposition.specs.declared.Morpheme.{Morpheme}
 use Rattle.decomposition.specs.declared.entries.MorphemeAnswer.{MorphemeAnswer}

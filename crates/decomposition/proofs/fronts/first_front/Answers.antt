@@ -1,15 +1,13 @@
 -- `fronts::first_front` meets its contract: no row passed leaves a known word. Assumes nothing.
-use mathlib.Core.Path.{◌≡◌, refl, sym, ap, ◌∙◌}
+use mathlib.Core.Path.{◌≡◌, refl, sym, ◌∙◌}
 use mathlib.Core.List.{[]}
-use Prim.Native.Nat.{◌-◌, ◌≤◌, ◌<◌}
+use Prim.Native.Nat.{◌<◌}
 use native.Mathlib.Omega.{arith}
-use borrow.Author.Rules.{rules}
-use lib.ListN.{length, drop, get_or}
+use lib.ListN.{length, get_or}
 use Rattle.tables.specs.Rows.{prefix_forms}
 use Rattle.tables.proofs.Laid.{laid-asks, laid-row}
 use Rattle.tables.proofs.Facts.{prefix_form_count}
 use Rattle.sheet.specs.Replies.{reply}
-use Rattle.decomposition.specs.Strips.{first_front}
 use Rattle.decomposition.proofs.Leading.{front-found, front_next, front-end, word-inside}
 use Rattle.decomposition.proofs.fronts.first_front.Goals as goal
 use Rattle.decomposition.proofs.fronts.first_front.Lts.View.{up-In-loop-k}

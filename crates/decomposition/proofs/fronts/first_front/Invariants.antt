@@ -1,16 +1,10 @@
 -- `fronts::first_front` meets its contract: no row passed leaves a known word. Assumes nothing.
-use mathlib.Core.Path.{◌≡◌, refl, sym, ap, ◌∙◌}
-use mathlib.Core.List.{[]}
-use Prim.Native.Nat.{◌-◌, ◌≤◌, ◌<◌}
-use native.Mathlib.Omega.{arith}
-use borrow.Author.Rules.{rules}
-use lib.ListN.{length, drop, get_or}
+use mathlib.Core.Path.{◌≡◌}
+use Prim.Native.Nat.{◌-◌, ◌≤◌}
+use lib.ListN.{drop}
 use Rattle.tables.specs.Rows.{prefix_forms}
-use Rattle.tables.proofs.Laid.{laid-asks, laid-row}
-use Rattle.tables.proofs.Facts.{prefix_form_count}
 use Rattle.sheet.specs.Replies.{reply}
 use Rattle.decomposition.specs.Strips.{first_front}
-use Rattle.decomposition.proofs.Leading.{front-found, front_next, front-end, word-inside}
 use Rattle.decomposition.proofs.fronts.first_front.Given as goal
 
 abbrev pub invariant-loop-k : goal.invariant-loop-k

@@ -5,7 +5,6 @@ use lib.ListN.{length}
 use Rattle.sheet.specs.Replies.{reply}
 use Rattle.strips.proofs.Remainders.{rest-inside}
 use Rattle.decomposition.proofs.Leading.{rest-none, rest_known, rest-unknown}
-use borrow.Author.Rules.{rules}
 use Rattle.decomposition.proofs.fronts.word_rest.Goals as goal
 use Rattle.decomposition.proofs.fronts.word_rest.Goals.{In-From}
 

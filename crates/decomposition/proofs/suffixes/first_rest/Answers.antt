@@ -4,7 +4,6 @@ use lib.Seq.{length-take-le}
 use Rattle.strips.proofs.Remainders.{Inside}
 use Rattle.sheet.specs.Replies.{reply}
 use Rattle.decomposition.proofs.Taken.{first-inside, first-none, first_plain, first_one, first-shared, first_neither}
-use borrow.Author.Rules.{rules}
 use Rattle.decomposition.proofs.suffixes.first_rest.Goals as goal
 use Rattle.decomposition.proofs.suffixes.first_rest.Goals.{After-open_rests-rests}
 

@@ -2,7 +2,6 @@
 use mathlib.Core.Path.{◌∙◌}
 use Rattle.sheet.specs.Replies.{reply}
 use Rattle.decomposition.proofs.Taken.{taken-short, taken_word}
-use borrow.Author.Rules.{rules}
 use Rattle.decomposition.proofs.suffixes.is_taken.Goals as goal
 
 pub returns-then-count-least : goal.returns-then-count-least

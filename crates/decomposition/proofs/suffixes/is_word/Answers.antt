@@ -1,6 +1,5 @@
 -- `suffixes::is_word` meets its contract. Assumes nothing.
 use Rattle.decomposition.proofs.Taken.{word-told}
-use borrow.Author.Rules.{rules}
 use Rattle.decomposition.proofs.suffixes.is_word.Goals as goal
 
 pub returns : goal.returns

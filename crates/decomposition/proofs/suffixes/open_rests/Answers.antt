@@ -3,7 +3,6 @@ use mathlib.Core.Path.{◌≡◌, sym, ◌∙◌}
 use Rattle.sheet.specs.Replies.{reply}
 use Rattle.decomposition.specs.Strips.{is_kept}
 use Rattle.decomposition.proofs.Taken.{open_none, open_kept, open_free, kept}
-use borrow.Author.Rules.{rules}
 use Rattle.decomposition.proofs.suffixes.open_rests.Goals as goal
 use Rattle.decomposition.proofs.suffixes.open_rests.Goals.{After-bars}
 

@@ -4,7 +4,6 @@ use native.Mathlib.Omega.{arith}
 use lib.Seq.{length-take-le}
 use Rattle.sheet.specs.Replies.{reply}
 use Rattle.decomposition.proofs.Stages.{row-none, row-some}
-use borrow.Author.Rules.{rules}
 use Rattle.decomposition.proofs.suffixes.strip_row.Goals as goal
 
 pub slice_bounds-first_rest-end : goal.slice_bounds-first_rest-end

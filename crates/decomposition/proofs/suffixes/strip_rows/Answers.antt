@@ -1,16 +1,16 @@
 -- `suffixes::strip_rows` meets its contract: what all rows leave is what those to come leave of the stage. Assumes nothing.
 use mathlib.Core.Path.{◌≡◌, refl, sym, ap, ◌∙◌}
 use mathlib.Core.List.{[]}
-use Prim.Native.Nat.{◌-◌, ◌≤◌, ◌<◌}
+use Prim.Native.Nat.{◌<◌}
 use native.Mathlib.Omega.{arith}
-use lib.ListN.{length, drop}
+use lib.ListN.{length}
 use Rattle.tables.specs.Rows.{suffixes}
 use Rattle.tables.proofs.Laid.{laid-asks, laid-row}
 use Rattle.tables.proofs.Facts.{suffix-count}
 use Rattle.sheet.specs.Replies.{reply}
 use Rattle.decomposition.specs.Strips.{strip_rows}
-use Rattle.decomposition.specs.Parts.{filled, whole_stage}
-use Rattle.decomposition.specs.Places.{stage_of, Held, stripped_of}
+use Rattle.decomposition.specs.Parts.{filled}
+use Rattle.decomposition.specs.Places.{stripped_of}
 use Rattle.decomposition.proofs.Stages.{begun, rows_turn, rows_end, ended}
 use Rattle.decomposition.proofs.suffixes.strip_rows.Goals as goal
 use Rattle.decomposition.proofs.suffixes.strip_rows.Goals.{In-loop-k}

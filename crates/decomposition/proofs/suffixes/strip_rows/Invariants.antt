@@ -1,17 +1,12 @@
 -- `suffixes::strip_rows` meets its contract: what all rows leave is what those to come leave of the stage. Assumes nothing.
-use mathlib.Core.Path.{◌≡◌, refl, sym, ap, ◌∙◌}
-use mathlib.Core.List.{[]}
-use Prim.Native.Nat.{◌-◌, ◌≤◌, ◌<◌}
-use native.Mathlib.Omega.{arith}
-use lib.ListN.{length, drop}
+use mathlib.Core.Path.{◌≡◌}
+use Prim.Native.Nat.{◌-◌, ◌≤◌}
+use lib.ListN.{drop}
 use Rattle.tables.specs.Rows.{suffixes}
-use Rattle.tables.proofs.Laid.{laid-asks, laid-row}
-use Rattle.tables.proofs.Facts.{suffix-count}
 use Rattle.sheet.specs.Replies.{reply}
 use Rattle.decomposition.specs.Strips.{strip_rows}
-use Rattle.decomposition.specs.Parts.{filled, whole_stage}
-use Rattle.decomposition.specs.Places.{stage_of, Held, stripped_of}
-use Rattle.decomposition.proofs.Stages.{begun, rows_turn, rows_end, ended}
+use Rattle.decomposition.specs.Parts.{whole_stage}
+use Rattle.decomposition.specs.Places.{stage_of, Held}
 use Rattle.decomposition.proofs.suffixes.strip_rows.Given as goal
 
 abbrev pub invariant-loop-k : goal.invariant-loop-k

@@ -3,7 +3,6 @@ use Prim.Native.Nat.{◌+◌}
 use native.Mathlib.Omega.{arith}
 use mathlib.Core.Path.{◌∙◌}
 use Rattle.listing.proofs.Answered.{cut-from, cut-none}
-use borrow.Author.Rules.{rules}
 use Rattle.listing.proofs.entry.after.Goals as goal
 
 pub returns-then-end-input : goal.returns-then-end-input

@@ -4,7 +4,6 @@ use mathlib.Core.Path.{sym}
 use lib.Seq.{length-take-le}
 use Rattle.listing.proofs.Room.{number-line-size}
 use Rattle.listing.proofs.Answered.{answer_as, printed_long, word_end, printed-parts}
-use borrow.Author.Rules.{rules}
 use Rattle.listing.proofs.entry.print_answer.Goals as goal
 
 pub returns-then-input-gt65536 : goal.returns-then-input-gt65536

@@ -1,7 +1,6 @@
 -- `entry::print_readings` meets its contract, by what the core call says. Assumes nothing.
 use mathlib.Core.Path.{sym, ◌∙◌}
 use Rattle.listing.proofs.Told.{prints-refused, prints-listed}
-use borrow.Author.Rules.{rules}
 use Rattle.listing.proofs.entry.print_readings.Goals as goal
 
 pub returns-in-Refused : goal.returns-in-Refused

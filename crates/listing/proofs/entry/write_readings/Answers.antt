@@ -1,7 +1,6 @@
 -- `entry::write_readings` meets its contract, by what the core call says. Assumes nothing.
 use mathlib.Core.Path.{sym, ◌∙◌}
 use Rattle.listing.proofs.Told.{gives_refused, gives_listed}
-use borrow.Author.Rules.{rules}
 use Rattle.listing.proofs.entry.write_readings.Goals as goal
 
 pub returns-in-Refused : goal.returns-in-Refused

@@ -1,6 +1,4 @@
 -- `rows::put_end` meets its contract, origin by origin. Assumes nothing.
-use mathlib.Core.Path.{refl}
-use borrow.Author.Rules.{rules}
 use Rattle.listing.proofs.rows.put_end.Goals as goal
 
 pub returns-in-Tatsam : goal.returns-in-Tatsam

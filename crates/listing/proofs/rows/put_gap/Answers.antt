@@ -2,10 +2,9 @@
 use Prim.Native.Nat.{ℕ, zero, suc}
 use native.Mathlib.Omega.{arith}
 use mathlib.Core.Path.{◌≡◌, refl, sym, ap}
-use mathlib.Core.List.{List, [], ◌∷◌}
+use mathlib.Core.List.{[], ◌∷◌}
 use Rattle.writing.specs.Refused.{gap}
 use Rattle.writing.proofs.Puts.{put_as, put_nothing}
-use borrow.Author.Rules.{rules}
 use Rattle.listing.proofs.rows.put_gap.Goals as goal
 
 one_space : (i : ℕ) → (i ≡ 0 → ⊥) → 32 ∷ [] ≡ gap i

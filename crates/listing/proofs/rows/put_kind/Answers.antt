@@ -1,6 +1,4 @@
 -- `rows::put_kind` meets its contract, kind by kind. Assumes nothing.
-use mathlib.Core.Path.{refl}
-use borrow.Author.Rules.{rules}
 use Rattle.listing.proofs.rows.put_kind.Goals as goal
 
 pub returns-in-Particle : goal.returns-in-Particle

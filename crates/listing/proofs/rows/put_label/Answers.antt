@@ -1,11 +1,9 @@
 -- `rows::put_label` meets its contract. Assumes nothing.
-use Prim.Native.Nat.{◌+◌, ◌<◌}
 use native.Mathlib.Omega.{arith}
 use mathlib.Core.Path.{sym, ap, ◌∙◌}
 use Rattle.tables.specs.Tables.{row_at}
 use Rattle.writing.proofs.Puts.{put_as, put_nothing}
 use Rattle.listing.proofs.Labels.{no_label, label-row}
-use borrow.Author.Rules.{rules}
 use Rattle.listing.proofs.rows.put_label.Goals as goal
 
 pub returns-then-starts-row : goal.returns-then-starts-row

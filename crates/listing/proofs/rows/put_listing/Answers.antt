@@ -1,15 +1,14 @@
 -- `rows::put_listing` meets its contract: the rows that the count allows are the first 64 at most. Assumes nothing.
-use Prim.Native.Nat.{ℕ, ◌*◌, ◌≤◌, min}
+use Prim.Native.Nat.{ℕ, ◌*◌, ◌≤◌}
 use native.Mathlib.Omega.{arith}
-use mathlib.Core.Path.{◌≡◌, refl, sym, ap, subst, ◌∙◌}
+use mathlib.Core.Path.{◌≡◌, sym, ap, subst, ◌∙◌}
 use mathlib.Core.List.{List}
-use lib.ListN.{length, take, length-map}
+use lib.ListN.{length, take}
 use lib.Seq.{length-take-le}
 use Rattle.writing.specs.Decimal.{decimal}
 use Rattle.listing.specs.Texts.{row_texts, listing_text, row_room}
 use Rattle.writing.proofs.Puts.{put_both, put_as}
 use Rattle.listing.proofs.Parted.{take_least}
-use borrow.Author.Rules.{rules}
 use Rattle.ranking.specs.declared.Classified.{Classified}
 use Rattle.listing.proofs.Room.{listing-size}
 use Rattle.listing.proofs.rows.put_listing.Goals as goal

@@ -1,10 +1,8 @@
 -- `rows::put_mark` meets its contract: nothing, or the mark. Assumes nothing.
 use native.Mathlib.Omega.{arith}
-use mathlib.Core.Path.{◌≡◌, refl, sym, ap}
+use mathlib.Core.Path.{sym, ap}
 use Rattle.listing.specs.Texts.{mark_text}
 use Rattle.writing.proofs.Puts.{put_as, put_nothing}
-use borrow.Author.Rules.{rules}
-use borrow.Author.Tests.{not-true, not-false}
 use Rattle.listing.proofs.rows.put_mark.Goals as goal
 
 pub returns-then-not-shared : goal.returns-then-not-shared

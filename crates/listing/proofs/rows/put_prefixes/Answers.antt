@@ -1,15 +1,12 @@
 -- `rows::put_prefixes` meets its contract: the labels put so far and those to come are all of them. Assumes nothing.
-use Prim.Native.Nat.{◌-◌, ◌≤◌}
 use native.Mathlib.Omega.{arith}
-use mathlib.Core.Path.{◌≡◌, ◌∙◌}
-use mathlib.Core.List.{map}
-use lib.ListN.{length, take, drop, length-map}
+use mathlib.Core.Path.{◌≡◌}
+use lib.ListN.{length}
 use Rattle.tables.proofs.Laid.{laid-asks}
 use Rattle.tables.proofs.Facts.{prefix_label_count}
 use Rattle.listing.proofs.Labels.{laid-label}
-use Rattle.writing.specs.Refused.{parted, parted_from}
 use Rattle.listing.specs.Texts.{label_text}
-use Rattle.writing.proofs.Puts.{put_as, Upto, upto-none}
+use Rattle.writing.proofs.Puts.{put_as, upto-none}
 use Rattle.listing.proofs.Parted.{parted_turn, parted_all}
 use Rattle.listing.proofs.rows.put_prefixes.Goals as goal
 use Rattle.listing.proofs.rows.put_prefixes.Goals.{Start}

@@ -1,8 +1,7 @@
 -- `rows::put_reading` meets its contract: eleven texts, one after the other. Assumes nothing.
-use mathlib.Core.Path.{◌≡◌, refl, ap}
+use mathlib.Core.Path.{◌≡◌, ap}
 use native.Mathlib.Omega.{arith}
-use Prim.Native.Nat.{◌<◌}
-use lib.ListN.{length, length-map}
+use lib.ListN.{length}
 use Rattle.writing.specs.Decimal.{decimal}
 use Rattle.listing.specs.Texts.{reading_text}
 use Rattle.writing.proofs.Puts.{put_both, put_as}

@@ -1,5 +1,4 @@
 -- `rows::put_row` meets its contract: what is said of the reading, then the tag letter and what closes the row. Assumes nothing.
-use borrow.Author.Rules.{rules}
 use Rattle.listing.specs.Texts.{row_text}
 use Rattle.writing.proofs.Puts.{put_both}
 use Rattle.listing.proofs.Room.{row-size}

@@ -1,13 +1,11 @@
 -- `rows::put_rows` meets its contract: the rows put so far and those to come are all rows. Assumes nothing.
-use Prim.Native.Nat.{◌+◌, ◌-◌, ◌*◌, ◌≤◌}
 use native.Mathlib.Omega.{arith}
 use mathlib.Core.Path.{◌≡◌, ap}
-use lib.ListN.{length, take, drop, length-map}
+use lib.ListN.{length}
 use Rattle.ranking.specs.Places.{no_row}
 use Rattle.ranking.proofs.Puts.{scan_next, scan-end}
-use Rattle.text.specs.Word.{word_limit}
-use Rattle.listing.specs.Texts.{row_text, row_texts, row_room}
-use Rattle.writing.proofs.Puts.{Upto, upto-none, upto-more, upto_all}
+use Rattle.listing.specs.Texts.{row_texts}
+use Rattle.writing.proofs.Puts.{upto-none, upto-more, upto_all}
 use Rattle.listing.proofs.Room.{rows_turn, rows_end}
 use Rattle.listing.proofs.rows.put_rows.Goals as goal
 

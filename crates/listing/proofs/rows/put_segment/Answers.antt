@@ -1,12 +1,10 @@
 -- `rows::put_segment` meets its contract: six texts, one after the other. Assumes nothing.
-use mathlib.Core.Path.{refl}
 use native.Mathlib.Omega.{arith}
 use Rattle.tables.proofs.Laid.{laid-asks}
 use Rattle.tables.proofs.Facts.{affix_count}
 use Rattle.listing.specs.Texts.{segment_text}
 use Rattle.writing.proofs.Puts.{put_both, put_as}
 use Rattle.listing.proofs.Labels.{laid-label}
-use borrow.Author.Rules.{rules}
 use Rattle.listing.proofs.rows.put_segment.Goals as goal
 
 pub put_label-label-requires : goal.put_label-label-requires

@@ -1,13 +1,10 @@
 -- `rows::put_segments` meets its contract: the segments put so far and those to come are all of them. Assumes nothing.
-use Prim.Native.Nat.{◌-◌, ◌≤◌}
 use native.Mathlib.Omega.{arith}
-use mathlib.Core.Path.{◌≡◌, ◌∙◌}
-use mathlib.Core.List.{map}
-use lib.ListN.{length, take, drop, length-map}
+use mathlib.Core.Path.{◌≡◌}
+use lib.ListN.{length}
 use Rattle.ranking.specs.Stored.{no_segment}
-use Rattle.writing.specs.Refused.{parted, parted_from}
 use Rattle.listing.specs.Texts.{segment_text}
-use Rattle.writing.proofs.Puts.{put_as, Upto, upto-none}
+use Rattle.writing.proofs.Puts.{upto-none}
 use Rattle.listing.proofs.Parted.{parted_turn, parted_all}
 use Rattle.listing.proofs.rows.put_segments.Goals as goal
 use Rattle.listing.proofs.rows.put_segments.Goals.{Start}

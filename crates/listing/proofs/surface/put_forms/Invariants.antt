@@ -1,16 +1,10 @@
 -- `surface::put_forms` meets its contract: the forms put so far and those to come are all of them. Assumes nothing.
 use Prim.Native.Nat.{◌-◌, ◌≤◌}
-use native.Mathlib.Omega.{arith}
-use mathlib.Core.Path.{◌≡◌, ◌∙◌}
 use mathlib.Core.List.{map}
-use lib.ListN.{length, take, drop, length-map}
-use Rattle.tables.proofs.Laid.{laid-asks}
-use Rattle.tables.proofs.Facts.{prefix_form_count}
+use lib.ListN.{length, take, drop}
 use Rattle.paths.specs.Chains.{form_of}
 use Rattle.paths.specs.Recomposed.{in_row}
-use Rattle.writing.proofs.Puts.{put_as, Upto, upto-none}
-use Rattle.listing.proofs.Labels.{laid-label}
-use Rattle.listing.proofs.Parted.{row_turn, row_all}
+use Rattle.writing.proofs.Puts.{Upto}
 use Rattle.listing.proofs.surface.put_forms.Given as goal
 
 abbrev pub invariant-loop-i : goal.invariant-loop-i

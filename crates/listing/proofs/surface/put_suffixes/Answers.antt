@@ -1,12 +1,10 @@
 -- `surface::put_suffixes` meets its contract: what is put so far and what is to come are all of it. Assumes nothing.
-use Prim.Native.Nat.{◌-◌, ◌≤◌}
 use native.Mathlib.Omega.{arith}
-use mathlib.Core.Path.{◌≡◌, ◌∙◌}
-use mathlib.Core.List.{map}
-use lib.ListN.{length, take, drop, length-map}
+use mathlib.Core.Path.{◌≡◌}
+use lib.ListN.{length}
 use Rattle.ranking.specs.Stored.{no_segment}
-use Rattle.paths.specs.Recomposed.{in_row, written_of}
-use Rattle.writing.proofs.Puts.{put_as, Upto, upto-none}
+use Rattle.paths.specs.Recomposed.{written_of}
+use Rattle.writing.proofs.Puts.{put_as, upto-none}
 use Rattle.listing.proofs.Parted.{row_turn, row_all}
 use Rattle.listing.proofs.surface.put_suffixes.Goals as goal
 use Rattle.listing.proofs.surface.put_suffixes.Goals.{Start}

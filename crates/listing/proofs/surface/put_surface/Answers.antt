@@ -1,8 +1,6 @@
 -- `surface::put_surface` meets its contract: forms, root and suffixes one after the other. Assumes nothing.
-use mathlib.Core.Path.{◌≡◌}
 use Rattle.paths.specs.Recomposed.{surface_text}
 use Rattle.writing.proofs.Puts.{put_both, put_as}
-use borrow.Author.Rules.{rules}
 use Rattle.listing.proofs.surface.put_surface.Goals as goal
 
 pub returns : goal.returns

@@ -1,7 +1,6 @@
 -- `surface::write_surface` meets its contract: the first call tells the length, the second writes. Assumes nothing.
 use native.Mathlib.Omega.{arith}
 use Rattle.writing.proofs.Puts.{written-whole, written-not}
-use borrow.Author.Rules.{rules}
 use Rattle.listing.proofs.surface.write_surface.Goals as goal
 
 pub returns-then-out-size : goal.returns-then-out-size

@@ -1,5 +1,5 @@
 -- `surface::written_of` meets its contract. Assumes nothing.
-use Prim.Native.Nat.{ℕ, ◌-◌, ◌<◌, ◌+◌}
+use Prim.Native.Nat.{ℕ, ◌-◌}
 use native.Mathlib.Omega.{arith}
 use mathlib.Core.Path.{◌≡◌, refl, sym, ap, ◌∙◌}
 use mathlib.Core.Bool.{Bool, true, false}
@@ -15,7 +15,6 @@ use Rattle.paths.specs.Recomposed.{written_of}
 use Rattle.tables.proofs.Laid.{laid-asks}
 use Rattle.tables.proofs.Facts.{affix_count}
 use Rattle.listing.proofs.Labels.{no_label, label-row, laid-label}
-use borrow.Author.Rules.{rules}
 use Rattle.listing.proofs.surface.written_of.Goals as goal
 use Rattle.listing.proofs.surface.written_of.Goals.{After-row-text}
 

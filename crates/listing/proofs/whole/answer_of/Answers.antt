@@ -1,8 +1,6 @@
 -- `whole::answer_of` meets its contract: the buffer has room for the longest list. Assumes nothing.
-use Prim.Native.Nat.{◌≤◌}
 use native.Mathlib.Omega.{arith}
-use borrow.Author.Rules.{rules}
-use Rattle.listing.specs.Printed.{readings_text, printed}
+use Rattle.listing.specs.Printed.{printed}
 use Rattle.writing.proofs.Wholes.{whole, never_short}
 use Rattle.listing.proofs.whole.answer_of.Goals as goal
 

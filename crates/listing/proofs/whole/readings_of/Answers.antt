@@ -1,8 +1,6 @@
 -- `whole::readings_of` meets its contract: the buffer has room for the longest list. Assumes nothing.
-use Prim.Native.Nat.{◌≤◌}
 use native.Mathlib.Omega.{arith}
-use borrow.Author.Rules.{rules}
-use Rattle.listing.specs.Printed.{readings_text, printed}
+use Rattle.listing.specs.Printed.{readings_text}
 use Rattle.writing.proofs.Wholes.{whole, never_short}
 use Rattle.listing.proofs.whole.readings_of.Goals as goal
 

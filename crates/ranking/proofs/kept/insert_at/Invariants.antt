@@ -1,15 +1,9 @@
 -- `ranking::kept::insert_at` meets its contract: the rows with the carried one put in are the same all along. Assumes nothing.
-use Prim.Native.Nat.{ℕ, ◌+◌, ◌-◌, ◌<◌, ◌≤◌}
-use native.Mathlib.Omega.{arith}
-use mathlib.Core.Path.{◌≡◌, refl, sym, ap, ◌∙◌}
-use mathlib.Core.List.{List}
-use lib.ListN.{length, take, get_or, set}
-use borrow.Author.Rules.{rules}
-use Rattle.ranking.specs.declared.Reading.{Reading}
-use Rattle.ranking.specs.Places.{put_in, no_reading}
+use Prim.Native.Nat.{◌-◌, ◌<◌, ◌≤◌}
+use mathlib.Core.Path.{◌≡◌}
+use lib.ListN.{length}
+use Rattle.ranking.specs.Places.{put_in}
 use Rattle.ranking.specs.Kept.{rows_in, kept_bytes}
-use Rattle.ranking.proofs.Backs.{rows-length}
-use Rattle.ranking.proofs.Puts.{carry_on, carried_last, put_front}
 use Rattle.ranking.proofs.kept.insert_at.Given as goal
 
 abbrev pub invariant-loop-i : goal.invariant-loop-i

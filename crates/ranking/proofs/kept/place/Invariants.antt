@@ -1,14 +1,9 @@
 -- `ranking::kept::place` meets its contract: the place among all rows is that among the rows to come, past those passed. Assumes nothing.
 use Prim.Native.Nat.{◌+◌, ◌-◌, ◌≤◌}
-use native.Mathlib.Omega.{arith}
-use mathlib.Core.Path.{◌≡◌, sym, ap, ◌∙◌}
-use lib.ListN.{length, take, drop, get_or}
-use Rattle.ranking.specs.Rank.{ahead_of}
-use Rattle.ranking.specs.declared.Reading.{Reading}
-use Rattle.ranking.specs.Places.{place_in, no_reading}
+use mathlib.Core.Path.{◌≡◌}
+use lib.ListN.{length, take, drop}
+use Rattle.ranking.specs.Places.{place_in}
 use Rattle.ranking.specs.Kept.{rows_in, kept_bytes}
-use Rattle.ranking.proofs.Backs.{rows-length}
-use Rattle.ranking.proofs.Puts.{scan_next, scan-end, place_here, place_next, place_none}
 use Rattle.ranking.proofs.kept.place.Given as goal
 
 abbrev pub invariant-loop-i : goal.invariant-loop-i

@@ -1,8 +1,6 @@
 -- `ranking::kept::store` meets its contract: too many, or one more in its place. Assumes nothing.
 use native.Mathlib.Omega.{arith}
-use mathlib.Core.Path.{◌≡◌}
 use Rattle.ranking.proofs.Puts.{kept_full, kept-room}
-use borrow.Author.Rules.{rules}
 use Rattle.ranking.proofs.kept.store.Goals as goal
 
 pub returns-then-n-ge-LIMIT : goal.returns-then-n-ge-LIMIT

@@ -1,6 +1,5 @@
 -- `ranking::rows::get_reading` meets its contract, part by part. Assumes nothing.
 use Rattle.ranking.proofs.Backs.{reading_parts}
-use borrow.Author.Rules.{rules}
 use Rattle.ranking.proofs.rows.get_reading.Goals as goal
 
 pub returns : goal.returns

@@ -1,5 +1,4 @@
 -- `ranking::rows::kind_at` meets its contract, test by test. Assumes nothing.
-use borrow.Author.Rules.{rules}
 use Rattle.ranking.proofs.Backs.{other_kind}
 use Rattle.ranking.proofs.rows.kind_at.Goals as goal
 

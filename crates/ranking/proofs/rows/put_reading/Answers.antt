@@ -5,14 +5,13 @@ use mathlib.Core.List.{List, ◌++◌}
 use lib.ListN.{drop, get_or}
 use Rattle.ranking.specs.Stored.{no_segment, reading_width}
 use Rattle.ranking.proofs.Backs.{segment-bytes, reading-bytes}
-use borrow.Author.Rules.{rules}
 use Rattle.ranking.proofs.rows.put_reading.Goals as goal
 
 pub returns : goal.returns
 returns c =
     let s = c.args in
     let t = s.r.segments in
-    ap (λ (l : List ℕ). l ++ drop reading_width s.out.now) 
+    ap (λ (l : List ℕ). l ++ drop reading_width s.out.now)
     (c.copy_from_slice.ensures.after ∙ reading-bytes s.r c.low.ensures c.high.ensures c.low-2.ensures c.high-2.ensures c.low-3.ensures c.high-3.ensures
     (segment-bytes (get_or t 0 no_segment) c.kind_number.ensures c.mark_number.ensures) (segment-bytes (get_or t 1 no_segment) c.kind_number-2.ensures c.mark_number-2.ensures)
     (segment-bytes (get_or t 2 no_segment) c.kind_number-3.ensures c.mark_number-3.ensures) (segment-bytes (get_or t 3 no_segment) c.kind_number-4.ensures c.mark_number-4.ensures))

@@ -5,7 +5,6 @@ use mathlib.Core.Path.{◌≡◌, ap, ◌∙◌}
 use lib.ListN.{take, drop}
 use Rattle.ranking.specs.Stored.{reading_at, reading_width}
 use Rattle.ranking.proofs.Backs.{row_read}
-use borrow.Author.Rules.{rules}
 use Rattle.ranking.proofs.rows.row_at.Goals as goal
 
 pub returns : goal.returns

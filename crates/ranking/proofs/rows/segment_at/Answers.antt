@@ -1,10 +1,9 @@
 -- `ranking::rows::segment_at` meets its contract: the three bytes are those of the segment. Assumes nothing.
 use Prim.Native.Nat.{◌+◌}
-use mathlib.Core.Path.{◌≡◌, ap}
+use mathlib.Core.Path.{ap}
 use lib.ListN.{get_or}
 use lib.Dec.{ltb}
 use Rattle.ranking.specs.declared.AffixKind.{AffixKind}
-use borrow.Author.Rules.{rules}
 use Rattle.ranking.proofs.rows.segment_at.Goals as goal
 
 pub returns : goal.returns

@@ -1,8 +1,7 @@
 -- `ranking::rows::set_row` meets its contract: the row is stored, and the others stay. Assumes nothing.
 use mathlib.Core.Path.{◌≡◌}
-use lib.ListN.{length, length-map}
+use lib.ListN.{length}
 use Rattle.ranking.proofs.Backs.{row-set}
-use borrow.Author.Rules.{rules}
 use Rattle.ranking.proofs.rows.set_row.Goals as goal
 
 pub returns : goal.returns
