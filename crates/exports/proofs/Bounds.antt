@@ -13,7 +13,7 @@ use Rattle.runs.proofs.Begins.{and_left, and_right}
 use Rattle.text.specs.Utf8.{is_utf8}
 use Rattle.text.specs.Names.{holds_forbidden}
 use Rattle.text.specs.Word.{word_limit}
-use Rattle.sheet.specs.Forms.{is_name, key, key_of}
+use Rattle.sheet.specs.Forms.{is_name, key_of}
 use Rattle.sheet.specs.Limits.{sheet_limit}
 use Rattle.sheet.specs.Lines.{sheet_check, starts_of, line_at}
 use Rattle.sheet.specs.Replies.{reply}
@@ -51,7 +51,7 @@ use Rattle.analysis.specs.declared.entry.Said.TheVariants as said
 use Rattle.listing.specs.Texts.{listing_text, listing_room}
 use Rattle.writing.specs.Placed.{written_of}
 use Rattle.listing.specs.Printed.{said_text, readings_text, outcome_by, outcome_of}
-use Rattle.refusals.specs.Refusals.{number, places, numbers_of, room_for, Before}
+use Rattle.refusals.specs.Refusals.{number, numbers_of, Before}
 use Rattle.refusals.specs.declared.Refusal.TheVariants.{OutputTooShort}
 use Rattle.refusals.specs.declared.Written.{Written}
 use Rattle.refusals.specs.declared.Written.TheVariants as written

@@ -13,7 +13,7 @@ use borrow.Author.Tests.{le-leb}
 use Rattle.sheet.specs.Inputs.{inputs_of}
 use Rattle.sheet.specs.Replies.{Ask, reply}
 use Rattle.refusals.specs.declared.Refusal.{Refusal}
-use Rattle.refusals.specs.Refusals.{number, places, numbers_of, output_by}
+use Rattle.refusals.specs.Refusals.{number, places, output_by}
 use Rattle.refusals.specs.declared.Refusal.TheVariants.{OutputTooShort}
 use Rattle.refusals.specs.declared.Written.{Written}
 use Rattle.refusals.specs.declared.Written.TheVariants as written
@@ -40,7 +40,7 @@ use Rattle.writing.specs.Placed.{written_of}
 use Rattle.listing.specs.Printed.{outcome_by, outcome_of, left_of}
 use Rattle.listing.proofs.Room.{reading_size, row-size, listing-size}
 use Rattle.exports.specs.Codes.{coded, answered, refusal_code, written_code}
-use Rattle.exports.specs.Rows.{Filled, row_bytes, row_width, each, rows_filled, readings_if, readings_filled}
+use Rattle.exports.specs.Rows.{row_bytes, row_width, each, rows_filled, readings_if, readings_filled}
 use Rattle.exports.specs.Filled.{candidate_bytes, candidates_if, candidates_filled}
 use Rattle.exports.proofs.Widths.{rows_long}
 use Rattle.exports.proofs.Put.{both}

@@ -1,5 +1,5 @@
 -- What is stored of the rows that the walk has kept. The proofs of `rows` cite these. Assumes nothing.
-use Prim.Native.Nat.{ℕ, zero, suc, ◌+◌, ◌<◌, ◌≤◌}
+use Prim.Native.Nat.{ℕ, zero, suc, ◌<◌, ◌≤◌}
 use native.Mathlib.Omega.{arith}
 use mathlib.Core.Path.{◌≡◌, refl, sym, ap, ◌∙◌}
 use mathlib.Core.List.{List, [], ◌∷◌, map}
@@ -13,7 +13,7 @@ use Rattle.sheet.specs.declared.inputs.Inputs.{Inputs}
 use Rattle.sheet.specs.declared.inputs.Inputs.TheVariants as inputs
 use Rattle.ranking.specs.declared.Reading.{Reading}
 use Rattle.ranking.specs.declared.Classified.{Classified}
-use Rattle.ranking.specs.Lists.{Rows, rows, over, list_limit}
+use Rattle.ranking.specs.Lists.{Rows, list_limit}
 use Rattle.ranking.specs.Kept.{rows_in, kept_of}
 use Rattle.ranking.specs.Places.{no_reading, no_row}
 use Rattle.ranking.proofs.Backs.{rows-length}

@@ -15,12 +15,10 @@ use Rattle.sheet.specs.declared.inputs.Inputs.{Inputs}
 use Rattle.sheet.specs.declared.inputs.Inputs.TheVariants as inputs
 use Rattle.sheet.specs.declared.letters.Letters.{Letters}
 use Rattle.strips.specs.Prefix.{leaves}
-use Rattle.decomposition.specs.Strips.{Stage, label_row, least_root, left_of, no_front, front_at, first_front}
+use Rattle.decomposition.specs.Strips.{label_row, least_root, left_of, no_front, front_at, first_front}
 use Rattle.decomposition.specs.Parts.{filled, label_limit, root_text, parts_of, behind_front, decomposed_of, morpheme_of}
 use Rattle.decomposition.specs.Answers.{morpheme_if, morpheme_answer}
 use Rattle.decomposition.specs.declared.Parts.{Parts}
-use Rattle.decomposition.specs.declared.Morpheme.{Morpheme}
-use Rattle.decomposition.specs.declared.entries.MorphemeAnswer.{MorphemeAnswer}
 use Rattle.decomposition.specs.declared.fronts.Front.{Front}
 use Rattle.roots.specs.Rank.{ahead_of}
 use Rattle.roots.specs.Lists.{holds_in, ranked, once}

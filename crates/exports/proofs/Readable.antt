@@ -15,7 +15,7 @@ use Rattle.exports.proofs.Sure.{decision-fits}
 use Rattle.text.specs.Word.{word_limit}
 use Rattle.tables.specs.declared.origins.Origin.{Origin}
 use Rattle.tables.specs.declared.origins.Origin.TheVariants.{Tatsam, Tadbhav, Deshaj, Aagantuk}
-use Rattle.refusals.specs.Refusals.{number, places, numbers_of}
+use Rattle.refusals.specs.Refusals.{number, places}
 use Rattle.refusals.proofs.Outputs.{number_small}
 use Rattle.text.specs.declared.word.WordCheck.{WordCheck}
 use Rattle.sheet.specs.Inputs.{inputs_of, of_word, by_sheet, numbers_given}
@@ -37,7 +37,6 @@ use Rattle.ranking.specs.declared.Reading.{Reading}
 use Rattle.ranking.specs.declared.Classified.{Classified}
 use Rattle.paths.specs.Chains.{Route}
 use Rattle.paths.specs.Readings.{row_of}
-use Rattle.paths.proofs.Promises.{Listed}
 use Rattle.analysis.specs.declared.entry.Said.{Said}
 use Rattle.analysis.specs.declared.entry.Said.TheVariants as said
 use Rattle.analysis.specs.Answers.{said_of, rows_given}
@@ -48,13 +47,12 @@ use Rattle.origin.specs.declared.entries.DecisionAnswer.TheVariants as decisions
 use Rattle.decomposition.specs.Answers.{morpheme_answer}
 use Rattle.decomposition.specs.declared.Parts.{Parts}
 use Rattle.decomposition.specs.declared.Morpheme.{Morpheme}
-use Rattle.decomposition.specs.declared.entries.MorphemeAnswer.{MorphemeAnswer}
 use Rattle.roots.specs.Lists.{no_candidate}
 use Rattle.roots.specs.Answers.{roots_for}
 use Rattle.roots.specs.declared.RootCandidate.{RootCandidate}
 use Rattle.exports.specs.Codes.{coded, answered, bit, word_code, sheet_code, refusal_code, form_value, progressive_code, origin_number, source_number, origin_code}
-use Rattle.exports.specs.Read.{number_of, value_of, found_of, negative_of, main_end_of, lemma_len_of, lemma_at_of, origin_of, source_of, origin_at, source_at, four_at, row_at, has_bit, parts_at, candidate_at, decomposition_at}
-use Rattle.exports.specs.Rows.{Filled, four_bytes, row_bytes, row_width, each, rows_filled, readings_if, readings_filled}
+use Rattle.exports.specs.Read.{number_of, value_of, found_of, negative_of, main_end_of, lemma_len_of, lemma_at_of, origin_of, source_of, origin_at, source_at, row_at, has_bit, parts_at, candidate_at, decomposition_at}
+use Rattle.exports.specs.Rows.{four_bytes, row_bytes, row_width, each, rows_filled, readings_if, readings_filled}
 use Rattle.exports.specs.Filled.{parts_bytes, morpheme_bytes, candidate_bytes, stored, decompose_if, decompose_filled, candidates_if, candidates_filled}
 use Rattle.exports.proofs.Bounds.{SmallForm, answer_small}
 use Rattle.exports.proofs.Widths.{rows_long}

@@ -12,7 +12,7 @@ use Rattle.refusals.specs.Refusals.{room_for}
 use Rattle.refusals.specs.declared.Written.{Written}
 use Rattle.refusals.specs.declared.Written.TheVariants as written
 use Rattle.refusals.specs.declared.Refusal.TheVariants.{OutputTooShort}
-use Rattle.sheet.specs.Limits.{sheet_limit, line_limit}
+use Rattle.sheet.specs.Limits.{sheet_limit}
 use Rattle.sheet.specs.Inputs.{by_sheet}
 use Rattle.sheet.specs.Lines.{starts_of, sheet_check}
 use Rattle.sheet.specs.declared.check.SheetCheck.{SheetCheck}

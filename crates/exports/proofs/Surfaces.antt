@@ -7,10 +7,9 @@ use mathlib.Core.Path.{◌≡◌, refl, sym, ap, subst, ◌∙◌}
 use mathlib.Core.Bool.{Bool, true, false}
 use mathlib.Core.List.{List, [], ◌∷◌, ◌++◌}
 use lib.ListN.{length, drop, get_or, replicate, length-append, length-drop}
-use lib.Dec.{ltb, leb}
+use lib.Dec.{leb}
 use borrow.Author.Tests.{lt-ltb, le-ltb}
 use Rattle.runs.specs.Runs.{pick}
-use Rattle.refusals.specs.Refusals.{room_for}
 use Rattle.refusals.specs.declared.Refusal.{Refusal}
 use Rattle.refusals.specs.declared.Refusal.TheVariants.{OutputTooShort}
 use Rattle.refusals.specs.declared.Written.{Written}
@@ -24,7 +23,6 @@ use Rattle.sheet.specs.declared.inputs.Inputs.TheVariants as inputs
 use Rattle.decomposition.proofs.Short.{word-short}
 use Rattle.lookup.proofs.Readied.{word-said}
 use Rattle.ranking.specs.Stored.{reading_width, reading_at}
-use Rattle.ranking.specs.declared.Reading.{Reading}
 use Rattle.sheet.specs.Lines.{sheet_check}
 use Rattle.sheet.specs.declared.check.SheetCheck.TheVariants as sheets
 use Rattle.ranking.specs.Places.{no_row}
@@ -35,11 +33,11 @@ use Rattle.analysis.specs.Answers.{said_of, rows_given}
 use Rattle.analysis.proofs.Promises.{all_recomposed}
 use Rattle.paths.specs.Recomposed.{surface_text, Recomposed, All}
 use Rattle.paths.proofs.Promises.{joined}
-use Rattle.writing.specs.Placed.{written_of, text_over, Answer}
+use Rattle.writing.specs.Placed.{written_of}
 use Rattle.listing.specs.Texts.{listing_room}
 use Rattle.listing.proofs.Room.{surface_size}
-use Rattle.exports.specs.Codes.{Small, written_code}
-use Rattle.exports.specs.Rows.{Filled, row_bytes, row_width, each, rows_filled, readings_if, readings_filled}
+use Rattle.exports.specs.Codes.{Small}
+use Rattle.exports.specs.Rows.{row_bytes, row_width, each, rows_filled, readings_if, readings_filled}
 use Rattle.exports.proofs.Put.{both}
 use Rattle.exports.proofs.Widths.{each-length, rows_long}
 use Rattle.exports.proofs.Readable.{readings_read}

@@ -14,7 +14,7 @@ use borrow.Rule.Slice.PartMut.{mid_of, put_mid}
 use borrow.Author.Tests.{lt-ltb, le-ltb}
 use Rattle.refusals.specs.declared.Refusal.TheVariants.{OutputTooShort}
 use Rattle.exports.specs.Codes.{answered, refusal_code}
-use Rattle.exports.specs.Rows.{Filled, each, rows_filled}
+use Rattle.exports.specs.Rows.{each, rows_filled}
 
 module _ {A : Type 0} (bytes : A → List ℕ) where
   each_append : (xs ys : List A) → each bytes (xs ++ ys) ≡ each bytes xs ++ each bytes ys

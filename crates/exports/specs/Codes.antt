@@ -16,7 +16,6 @@ use Rattle.progressive.specs.declared.entry.Answer.{Answer}
 use Rattle.progressive.specs.declared.entry.Answer.TheVariants as answers
 use Rattle.progressive.specs.declared.entry.Supported.{Supported}
 use Rattle.progressive.specs.declared.entry.Supported.TheVariants as supports
-use Rattle.listing.specs.Texts.{listing_room}
 use Rattle.analysis.specs.declared.entry.Has.{Has}
 use Rattle.analysis.specs.declared.entry.Has.TheVariants as has
 use Rattle.analysis.specs.declared.entry.Visits.{Visits}
@@ -26,7 +25,6 @@ use Rattle.roots.specs.declared.entries.KnownAnswer.TheVariants as known
 use Rattle.origin.specs.Decisions.{none}
 use Rattle.origin.specs.declared.OriginSource.{OriginSource}
 use Rattle.origin.specs.declared.OriginSource.TheVariants.{Override, Kosha, Heuristic, Unknown}
-use Rattle.origin.specs.declared.OriginDecision.{OriginDecision}
 use Rattle.origin.specs.declared.entries.DecisionAnswer.{DecisionAnswer}
 use Rattle.origin.specs.declared.entries.DecisionAnswer.TheVariants as decisions
 

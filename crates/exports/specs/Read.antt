@@ -1,7 +1,7 @@
 -- How a caller reads what the static library's functions give, as the C header does: shifts and masks of a code are quotients and
 -- remainders by powers of 2, and a row of bytes is a reading with its root's origin (its first 22 bytes: `ranking/specs/Stored.reading_at`), a candidate or a
 -- decomposition. Assumes nothing.
-use Rattle.std.specs.Prelude.{ℕ, ◌+◌, ◌*◌, ◌/◌, ◌%◌, Bool, List, [], ◌∷◌, take, drop, get_or, ltb, Float}
+use Rattle.std.specs.Prelude.{ℕ, ◌+◌, ◌*◌, ◌/◌, ◌%◌, Bool, List, [], ◌∷◌, take, drop, get_or, ltb}
 use Rattle.tables.specs.declared.origins.Origin.{Origin}
 use Rattle.tables.specs.declared.origins.Origin.TheVariants.{Tatsam, Tadbhav, Deshaj, Aagantuk}
 use Rattle.std.specs.Float.{binary32}

@@ -1,5 +1,5 @@
 -- What the rescue of a torn sheet gives, as a code. Assumes nothing.
-use Rattle.std.specs.Prelude.{ℕ, ◌+◌, ◌*◌, ◌≤◌, ◌<◌}
+use Rattle.std.specs.Prelude.{ℕ, ◌+◌, ◌*◌, ◌<◌}
 use Rattle.sheet.specs.Inputs.{Placed}
 use Rattle.rescued.specs.declared.entry.Sizes.{Sizes}
 use Rattle.rescued.specs.declared.entry.Rescued.{Rescued}

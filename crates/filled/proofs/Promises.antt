@@ -14,13 +14,13 @@ use Rattle.refusals.specs.declared.Refusal.{Refusal}
 use Rattle.refusals.specs.declared.Refusal.TheVariants.{TooManyReadings, OutputTooShort}
 use Rattle.refusals.specs.declared.Written.{Written}
 use Rattle.refusals.specs.declared.Written.TheVariants.{Wrote}
-use Rattle.refusals.proofs.Lowest.{AtLeast, at_least_if, lead}
+use Rattle.refusals.proofs.Lowest.{AtLeast, lead}
 use Rattle.refusals.proofs.Outputs.{room_lowest, eight_short, short_eight, none_wrote, left_by_lem, output_length}
-use Rattle.sheet.specs.Inputs.{inputs_of, numbers_given, causes}
+use Rattle.sheet.specs.Inputs.{inputs_of, numbers_given}
 use Rattle.sheet.specs.Replies.{reply}
 use Rattle.sheet.specs.declared.inputs.Inputs.{Inputs}
 use Rattle.sheet.specs.declared.inputs.Inputs.TheVariants as inputs
-use Rattle.sheet.proofs.Refusals.{lowest_then, refused-low}
+use Rattle.sheet.proofs.Refusals.{lowest_then}
 use Rattle.ranking.specs.Lists.{list_limit, Rows, rows, over}
 use Rattle.ranking.specs.declared.Classified.{Classified}
 use Rattle.analysis.specs.declared.entry.Said.{Said}

@@ -10,13 +10,12 @@ use mathlib.Core.List.{List, [], ◌∷◌, ◌++◌}
 use lib.Dec.{ltb}
 use lib.ListN.{length, drop, get_or}
 use Rattle.refusals.specs.Refusals.{number, written_numbers, output_by, cause_if, lowest_numbers_of, or_else}
-use Rattle.refusals.specs.declared.Refusal.{Refusal}
 use Rattle.refusals.specs.declared.Refusal.TheVariants.{OutputTooShort}
 use Rattle.refusals.specs.declared.Written.{Written}
 use Rattle.refusals.specs.declared.Written.TheVariants.{Wrote}
 use Rattle.refusals.proofs.Lowest.{AtLeast}
 use Rattle.refusals.proofs.Outputs.{room_lowest, eight_short, short_eight, none_wrote, left_by_lem, output_length}
-use Rattle.sheet.specs.Inputs.{inputs_of, numbers_given, causes}
+use Rattle.sheet.specs.Inputs.{inputs_of, numbers_given}
 use Rattle.sheet.specs.Replies.{reply}
 use Rattle.sheet.specs.declared.inputs.Inputs.{Inputs}
 use Rattle.sheet.specs.declared.inputs.Inputs.TheVariants as inputs

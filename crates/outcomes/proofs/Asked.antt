@@ -25,7 +25,6 @@ use Rattle.decomposition.specs.Strips.{is_word, label_row, least_root, is_kept, 
 use Rattle.decomposition.specs.Parts.{parts_of, root_text, whole_stage, behind_front, of_stage, decomposed_of, morpheme_of}
 use Rattle.decomposition.specs.declared.fronts.Front.{Front}
 use Rattle.decomposition.specs.declared.Parts.{Parts}
-use Rattle.decomposition.specs.declared.Morpheme.{Morpheme}
 use Rattle.decomposition.proofs.Meant.{decomposed_root}
 use Rattle.roots.specs.Lists.{once}
 use Rattle.roots.specs.Candidates.{is_known, score_by, candidate_by, kept_of, kept_all, parts_among, under_row, under_rows, one_suffix, bare, under_form, under_forms, offers, candidates}

@@ -1,6 +1,6 @@
 -- Origin, source and confidence of a listed reading are those that `classify_with_provenance` gives for its root and the same sheet: the
 -- root of an accepted word's reading is itself an accepted word. Assumes nothing.
-use Prim.Native.Nat.{ℕ, ◌+◌, ◌≤◌}
+use Prim.Native.Nat.{ℕ, ◌≤◌}
 use native.Mathlib.Omega.{arith}
 use mathlib.Core.Path.{◌≡◌, refl, sym, ap, subst, ◌∙◌}
 use mathlib.Core.Bool.{Bool, true, false, not}
@@ -12,7 +12,6 @@ use Rattle.runs.specs.Runs.{pick}
 use Rattle.text.specs.Utf8.{is_utf8}
 use Rattle.text.specs.Names.{forbidden, holds_forbidden}
 use Rattle.text.specs.Word.{word_limit, word_check}
-use Rattle.text.specs.declared.word.WordCheck.{WordCheck}
 use Rattle.text.specs.declared.word.WordCheck.TheVariants as words
 use Rattle.sheet.specs.Lines.{sheet_check}
 use Rattle.sheet.specs.declared.check.SheetCheck.TheVariants as sheets
@@ -20,9 +19,8 @@ use Rattle.sheet.specs.Inputs.{inputs_of}
 use Rattle.sheet.specs.declared.inputs.Inputs.{Inputs}
 use Rattle.sheet.specs.Replies.{reply}
 use Rattle.sheet.proofs.Refusals.{accepted-both}
-use Rattle.origin.specs.Decisions.{decided, decision_of}
+use Rattle.origin.specs.Decisions.{decided}
 use Rattle.origin.specs.Answers.{decision_if, decision_answer}
-use Rattle.origin.specs.declared.entries.DecisionAnswer.{DecisionAnswer}
 use Rattle.origin.specs.declared.entries.DecisionAnswer.TheVariants as decisions
 use Rattle.ranking.specs.Rank.{root_text}
 use Rattle.ranking.specs.declared.Classified.{Classified}
@@ -32,7 +30,6 @@ use Rattle.paths.specs.Questions.{Part}
 use Rattle.paths.specs.Readings.{IsReading, reading_of, row_of}
 use Rattle.paths.specs.Recomposed.{All}
 use Rattle.paths.proofs.Origins.{root-part}
-use Rattle.analysis.specs.declared.entry.Said.{Said}
 use Rattle.analysis.specs.declared.entry.Said.TheVariants as said
 use Rattle.analysis.specs.Answers.{said_of, rows_given, said_numbers}
 use Rattle.analysis.proofs.Promises.{seven_exactly, all_listed}

@@ -2,8 +2,8 @@
 -- decision. A definition that said otherwise would fail here. Assumes nothing.
 use Prim.Native.Nat.{ℕ, ◌<◌}
 use native.Mathlib.Omega.{arith}
-use mathlib.Core.Path.{◌≡◌, refl, sym, ap, ◌∙◌}
-use mathlib.Core.Bool.{Bool, true, false}
+use mathlib.Core.Path.{◌≡◌, refl, ap}
+use mathlib.Core.Bool.{true, false}
 use mathlib.Core.Logic.{◌↔◌}
 use mathlib.Core.List.{List, [], ◌∷◌}
 use lib.ListN.{length}
@@ -17,14 +17,12 @@ use Rattle.analysis.specs.declared.entry.Said.{Said}
 use Rattle.analysis.specs.declared.entry.Said.TheVariants as said
 use Rattle.analysis.specs.declared.entry.Has.{Has}
 use Rattle.analysis.specs.declared.entry.Has.TheVariants as has
-use Rattle.roots.specs.Lists as lists
-use Rattle.roots.specs.Answers.{roots_for, best_in, best_answer, known_if, known_answer}
+use Rattle.roots.specs.Answers.{roots_for, best_answer, known_if, known_answer}
 use Rattle.roots.specs.declared.RootCandidate.{RootCandidate}
 use Rattle.roots.specs.declared.entries.KnownAnswer.{KnownAnswer}
 use Rattle.roots.specs.declared.entries.KnownAnswer.TheVariants as known
 use Rattle.origin.specs.Answers.{decision_answer, origin_only}
 use Rattle.origin.specs.declared.OriginDecision.{OriginDecision}
-use Rattle.origin.specs.declared.entries.DecisionAnswer.{DecisionAnswer}
 use Rattle.origin.specs.declared.entries.DecisionAnswer.TheVariants as decisions
 use Rattle.origin.specs.declared.entries.OriginAnswer.TheVariants as origins
 

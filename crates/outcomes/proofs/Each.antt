@@ -1,7 +1,6 @@
 -- Each thing that document 01 lists has the outcome that stands beside it in specs/Each, proved together. Assumes nothing.
 use mathlib.Core.Path.{◌≡◌, refl}
-use mathlib.Core.List.{List, map}
-use Prim.Native.Nat.{ℕ}
+use mathlib.Core.List.{map}
 use Rattle.text.specs.Utf8.{within, utf8_char, opened, after, run, is_utf8}
 use Rattle.text.specs.Characters.{opens, chars}
 use Rattle.text.specs.Names.{forbidden, name_run, holds_forbidden}
@@ -23,7 +22,6 @@ use Rattle.progressive.specs.Answers.{answer_of}
 use Rattle.origin.specs.Marks.{contains_one, ends_in_one, aagantuk_marks, has_aagantuk_markers, tatsam_marks, has_tatsam_markers, tadbhav_ends, has_tadbhav_markers, heuristic_of}
 use Rattle.origin.specs.Decisions.{known_in, known_by, known_rest, known_under, known_stem, decision_of}
 use Rattle.origin.specs.Answers.{decision_answer}
-use Rattle.origin.specs.declared.entries.DecisionAnswer.{DecisionAnswer}
 use Rattle.origin.specs.declared.entries.DecisionAnswer.TheVariants.{Decided}
 use Rattle.ranking.specs.Parts.{part}
 use Rattle.ranking.specs.Rank.{ahead_of}
@@ -38,7 +36,7 @@ use Rattle.writing.specs.Refused.{refused_text}
 use Rattle.listing.specs.Texts.{segment_text, reading_text, row_text, listing_text}
 use Rattle.listing.specs.Printed.{readings_text, printed}
 use Rattle.outcomes.specs.Words.{ghar, khai, nakhai, khanu, rahanu, gari, garnu, garanu}
-use Rattle.outcomes.specs.Outcomes.{Outcome, outcome_of}
+use Rattle.outcomes.specs.Outcomes.{outcome_of}
 use Rattle.outcomes.specs.Cases.{Case}
 use Rattle.outcomes.specs.Each.{forms, Classed, origins, kinds, refusals, Numbered, numbers}
 

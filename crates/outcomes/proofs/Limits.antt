@@ -1,23 +1,20 @@
 -- The limits, with their numbers written out: a word of 192 bytes and of 193, a name of 210 and of 211, a sheet of 65,536 and of 65,537, an
 -- input of the program of 65,536 and of 65,537. Assumes nothing.
-use Prim.Native.Nat.{ℕ, ◌≤◌}
+use Prim.Native.Nat.{ℕ}
 use native.Mathlib.Omega.{arith}
-use mathlib.Core.Path.{◌≡◌, refl, ap, ◌∙◌}
-use mathlib.Core.Bool.{Bool, true, false, not, ◌&&◌}
+use mathlib.Core.Path.{◌≡◌, refl}
+use mathlib.Core.Bool.{false, not, ◌&&◌}
 use mathlib.Core.List.{List, [], ◌∷◌}
 use lib.ListN.{length}
-use lib.Dec.{leb, ltb}
 use borrow.Author.Tests.{lt-ltb, le-ltb, le-leb, lt-leb}
 use Rattle.runs.specs.Runs.{pick}
 use Rattle.text.specs.Utf8.{is_utf8}
 use Rattle.text.specs.Names.{holds_forbidden}
 use Rattle.text.specs.Word.{word_limit, word_check}
-use Rattle.text.specs.declared.word.WordCheck.{WordCheck}
 use Rattle.text.specs.declared.word.WordCheck.TheVariants as words
 use Rattle.sheet.specs.Limits.{name_limit, sheet_limit}
 use Rattle.sheet.specs.Forms.{is_name}
 use Rattle.sheet.specs.Lines.{starts_of, judged, sheet_check}
-use Rattle.sheet.specs.declared.check.SheetCheck.{SheetCheck}
 use Rattle.sheet.specs.declared.check.SheetCheck.TheVariants as sheets
 use Rattle.writing.specs.Refused.{refused_text}
 use Rattle.listing.specs.Printed.{input_limit, word_of, sheet_of, readings_text, printed}

@@ -1,11 +1,11 @@
 -- A word's own questions are no more than document 01's list has: by cases, and of the empty word only रहनु and the kind lines of the 25
 -- texts. Were everything the word's own, "same answer for sheets that reply alike" would say nothing. Assumes nothing.
-use Prim.Native.Nat.{ℕ, ◌+◌, ◌<◌}
+use Prim.Native.Nat.{ℕ, ◌<◌}
 use native.Mathlib.Omega.{arith}
 use mathlib.Core.Path.{◌≡◌, refl, sym, ap, ◌∙◌}
 use mathlib.Core.Bool.{true}
 use mathlib.Core.Logic.{◌⊎◌, inl, inr}
-use mathlib.Core.List.{List, [], ◌∷◌, ◌++◌, append-nil}
+use mathlib.Core.List.{List, [], ◌++◌, append-nil}
 use lib.ListN.{length, get_or, length-append}
 use Rattle.tables.specs.Tables.{affixes}
 use Rattle.sheet.specs.Forms.{syllable_nu}

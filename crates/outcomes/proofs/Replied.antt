@@ -9,38 +9,33 @@ use mathlib.Core.List.{List, [], ◌∷◌, map}
 use lib.ListN.{length, drop}
 use lib.Dec.{eqb, leb, ltb}
 use borrow.Author.Tests.{ltb-true}
-use Rattle.runs.specs.Runs.{pick, same_text}
+use Rattle.runs.specs.Runs.{same_text}
 use Rattle.runs.proofs.Begins.{and_left}
 use Rattle.text.specs.Utf8.{is_utf8}
 use Rattle.text.specs.Names.{holds_forbidden}
 use Rattle.text.specs.Word.{word_check}
 use Rattle.text.specs.declared.word.WordCheck.TheVariants as words
 use Rattle.sheet.specs.Limits.{name_limit}
-use Rattle.sheet.specs.Forms.{is_name, is_form, key, key_of}
+use Rattle.sheet.specs.Forms.{is_name, key, key_of}
 use Rattle.sheet.specs.Lines.{starts_of, line_at, sheet_check}
 use Rattle.sheet.specs.declared.check.SheetCheck.TheVariants as sheets
 use Rattle.sheet.specs.Inputs.{inputs_of}
 use Rattle.sheet.specs.declared.inputs.Inputs.{Inputs}
 use Rattle.sheet.specs.declared.inputs.Inputs.TheVariants as inputs
-use Rattle.sheet.specs.Replies.{Reply, unknown, reply_in, reply, Alike}
+use Rattle.sheet.specs.Replies.{unknown, reply_in, reply, Alike}
 use Rattle.sheet.proofs.Forms.{form-named}
 use Rattle.sheet.proofs.Accepted.{GoesUp, accepted_up}
 use Rattle.sheet.proofs.Refusals.{accepted-both}
 use Rattle.origin.specs.Answers.{decision_if, decision_answer, origin_only}
-use Rattle.origin.specs.Decisions.{decision_of}
 use Rattle.origin.specs.declared.OriginDecision.{OriginDecision}
 use Rattle.origin.specs.declared.entries.DecisionAnswer.TheVariants as decisions
 use Rattle.decomposition.specs.Answers.{morpheme_if, morpheme_answer}
-use Rattle.decomposition.specs.Parts.{morpheme_of}
 use Rattle.decomposition.specs.declared.Morpheme.{Morpheme}
-use Rattle.roots.specs.Candidates.{candidates}
 use Rattle.roots.specs.Answers.{roots_if, roots_for, best_in, best_answer, known_if, known_answer}
-use Rattle.roots.specs.declared.RootCandidate.{RootCandidate}
 use Rattle.progressive.specs.Progressive.{Outcome, no, yes, progressive_of, is_yes}
 use Rattle.progressive.specs.Found.{form_of, lemma_name}
 use Rattle.progressive.specs.Answers.{answer_if, answer_of, form_given, name_if, lemma_text, supported_if, supported_of}
 use Rattle.progressive.specs.declared.find.Progressive.{Progressive}
-use Rattle.progressive.specs.declared.entry.Answer.{Answer}
 use Rattle.progressive.specs.declared.entry.Supported.TheVariants as supports
 use Rattle.paths.specs.Questions.{Part, Own, alone}
 use Rattle.paths.proofs.Own.{whole_part}

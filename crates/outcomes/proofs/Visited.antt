@@ -1,9 +1,8 @@
 -- How much looking the worked words cost (document 02 (n)). No piece of them has the shape of a progressive form but those of खाइरहेको, so
 -- that the numbers of the others hold whatever the sheet replies: also where it makes 77 readings of the word, and the answer is 7.
 -- Assumes nothing.
-use Prim.Native.Nat.{ℕ}
 use mathlib.Core.Path.{◌≡◌, refl}
-use mathlib.Core.List.{List, [], ◌∷◌, ◌++◌, map}
+use mathlib.Core.List.{[], ◌∷◌, ◌++◌, map}
 use Rattle.text.specs.Utf8.{within, utf8_char, opened, after, run, is_utf8}
 use Rattle.text.specs.Characters.{opens, chars}
 use Rattle.text.specs.Names.{forbidden, name_run, holds_forbidden}
@@ -20,9 +19,9 @@ use Rattle.strips.specs.Prefix.{least_after, leaves, prefix_remainder}
 use Rattle.progressive.specs.Progressive.{regular, lemma_of, is_shaped, progressive_of}
 use Rattle.paths.specs.Visits.{total, prefix_visits, entry, suffix_visits, visits_of}
 use Rattle.analysis.specs.Answers.{visits_given}
-use Rattle.outcomes.specs.Words.{ghar, gharle, khairaheko, khanu, rahanu}
+use Rattle.outcomes.specs.Words.{gharle, khairaheko, khanu, rahanu}
 use Rattle.outcomes.specs.Heavy.{four_cases, three_and_particle, all_groups}
-use Rattle.outcomes.specs.Cases.{both, verb}
+use Rattle.outcomes.specs.Cases.{verb}
 
 -- the empty word, घरले, and the heavy words, under any replies
 pub visits_worked : (ask : Ask) → map (visits_of ask) ([] ∷ gharle ∷ four_cases ∷ three_and_particle ∷ all_groups ∷ []) ≡ 0 ∷ 28 ∷ 304 ∷ 320 ∷ 320 ∷ []

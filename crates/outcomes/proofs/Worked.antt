@@ -1,7 +1,7 @@
 -- Document 01's worked cases, proved together: for every case of the list, what is asked has the outcome that stands beside it.
 -- Assumes nothing.
 use mathlib.Core.Path.{◌≡◌, refl}
-use mathlib.Core.List.{List, map}
+use mathlib.Core.List.{map}
 use Rattle.text.specs.Utf8.{within, utf8_char, opened, after, run, is_utf8}
 use Rattle.text.specs.Characters.{opens, chars}
 use Rattle.text.specs.Names.{forbidden, name_run, holds_forbidden}
@@ -36,7 +36,7 @@ use Rattle.writing.specs.Decimal.{digits_in, decimal}
 use Rattle.listing.specs.Texts.{segment_text, reading_text, row_text, listing_text}
 use Rattle.listing.specs.Printed.{readings_text, printed}
 use Rattle.outcomes.specs.Words.{ghar, gharle, le, nihshulk, shulk, nir, nis, amanav, manav, a, asaphal, saphal, khairaheko, nakhairaheko, khai, nakhai, khanu, rahanu, gariraheko, gari, garnu, garanu, listing, gharkota, gharko, ta, ko, gharl, gharat, gharatire, tira, re, shared_listing, twice_listing, kriti, kritile, table_listing, verb_listing, guest_listing}
-use Rattle.outcomes.specs.Outcomes.{Outcome, outcome_of}
+use Rattle.outcomes.specs.Outcomes.{outcome_of}
 use Rattle.outcomes.specs.Cases.{Case, cases}
 
 pub worked : map (λ (c : Case). outcome_of c.asked) cases ≡ map (λ (c : Case). c.outcome) cases

@@ -1,5 +1,5 @@
 -- What is asked in document 01's worked cases, and how an outcome is said there: by texts, labels and kinds. Assumes nothing.
-use Rattle.std.specs.Prelude.{ℕ, Bool, true, false, List, [], ◌∷◌, map, take, get_or}
+use Rattle.std.specs.Prelude.{ℕ, Bool, List, [], ◌∷◌, map, take, get_or}
 use Rattle.runs.specs.Runs.{pick}
 use Rattle.tables.specs.Rows.{prefix_labels, suffixes}
 use Rattle.tables.specs.Tables.{affixes}
@@ -10,7 +10,6 @@ use Rattle.ranking.specs.declared.Segment.{Segment}
 use Rattle.ranking.specs.declared.Classified.{Classified}
 use Rattle.origin.specs.Decisions.{decided}
 use Rattle.origin.specs.declared.OriginDecision.{OriginDecision}
-use Rattle.progressive.specs.declared.find.Progressive.{Progressive}
 use Rattle.progressive.specs.declared.entry.Answer.{Answer}
 use Rattle.progressive.specs.declared.entry.Answer.TheVariants as answers
 use Rattle.progressive.specs.Answers.{answer_of, answer_numbers, lemma_part}

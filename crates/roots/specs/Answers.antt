@@ -1,6 +1,6 @@
 -- What the entries of root candidates hand back for any word and any sheet (document 01, "What an entry hands back"). Assumes
 -- nothing.
-use Rattle.std.specs.Prelude.{ℕ, ◌≤◌, ◌≡◌, Bool, true, false, List, [], ◌∷◌}
+use Rattle.std.specs.Prelude.{ℕ, ◌≤◌, ◌≡◌, true, false, List, [], ◌∷◌}
 use Rattle.sheet.specs.Replies.{reply}
 use Rattle.tables.specs.declared.origins.Origin.TheVariants.{Deshaj}
 use Rattle.refusals.specs.Refusals.{numbers_of}

@@ -1,6 +1,6 @@
 -- Root candidates (document 01, "Root candidates"): what is offered, what is kept of it, and the record of each. It is said of
 -- replies, so that two sheets which reply alike are the same to it. Assumes nothing.
-use Rattle.std.specs.Prelude.{ℕ, suc, ◌+◌, ◌*◌, Bool, true, false, List, [], ◌∷◌, ◌++◌, length, drop, leb, ltb}
+use Rattle.std.specs.Prelude.{ℕ, suc, ◌+◌, ◌*◌, Bool, true, List, [], ◌∷◌, ◌++◌, length, drop, leb, ltb}
 use Rattle.runs.specs.Runs.{pick}
 use Rattle.text.specs.Characters.{chars}
 use Rattle.tables.specs.Rows.{prefix_forms, suffixes}

@@ -1,5 +1,5 @@
 -- The list of candidates in rank order, each root with its prefixes and suffixes once. Assumes nothing.
-use Rattle.std.specs.Prelude.{ℕ, zero, suc, Bool, true, false, List, [], ◌∷◌, length, take, ltb}
+use Rattle.std.specs.Prelude.{ℕ, zero, suc, Bool, true, false, List, [], ◌∷◌, take}
 use Rattle.runs.specs.Runs.{pick}
 use Rattle.tables.specs.declared.origins.Origin.TheVariants.{Tatsam}
 use Rattle.decomposition.specs.declared.Parts.{Parts}

@@ -1,6 +1,6 @@
 -- What the code keeps on the way, in a list with room for n, and what it is lent. proofs/Bounded.antt shows that room for 16 is enough.
 -- Assumes nothing.
-use Rattle.std.specs.Prelude.{ℕ, ◌≤◌, ◌≡◌, Bool, List, [], ◌∷◌, length, ltb}
+use Rattle.std.specs.Prelude.{ℕ, ◌≤◌, ◌≡◌, List, [], ◌∷◌, length, ltb}
 use Rattle.runs.specs.Runs.{pick}
 use Rattle.text.specs.Characters.{chars}
 use Rattle.tables.specs.Rows.{prefix_labels, suffixes}

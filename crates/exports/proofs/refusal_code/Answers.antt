@@ -1,7 +1,6 @@
 -- `exports::refusal_code` meets its contract: the number fits a byte, and the place of a faulty line is small enough. Assumes nothing.
 use Prim.Native.Nat.{◌<◌}
 use native.Mathlib.Omega.{arith}
-use borrow.Author.Rules.{rules}
 use mathlib.Core.Path.{sym, ap, ◌∙◌}
 use Rattle.refusals.specs.Refusals.{numbers_told}
 use Rattle.sheet.specs.Limits.{sheet_limit}

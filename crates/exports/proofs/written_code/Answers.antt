@@ -1,6 +1,5 @@
 -- `exports::written_code` meets its contract: what was written is no longer than the longest list. Assumes nothing.
 use native.Mathlib.Omega.{arith}
-use borrow.Author.Rules.{rules}
 use mathlib.Core.Path.{sym, ap, subst, ◌∙◌}
 use Rattle.exports.specs.Codes.{Small, written_code}
 use Rattle.exports.proofs.written_code.Goals as goal

@@ -1,5 +1,4 @@
 -- `exports::yes_code` meets its contract. Assumes nothing.
-use Prim.Native.Nat.{ℕ}
 use mathlib.Core.Path.{sym, ap}
 use mathlib.Core.Bool.{Bool}
 use Rattle.exports.specs.Codes.{answered, bit}

@@ -1,6 +1,5 @@
 -- `exports::yunthirel_check_sheet` meets its contract, answer by answer: a faulty line begins inside the sheet, so its place fits. Assumes nothing.
 use Prim.Native.Nat.{◌<◌}
-use borrow.Author.Rules.{rules}
 use mathlib.Core.Path.{sym, ap, subst, ◌∙◌}
 use Rattle.sheet.specs.Limits.{sheet_limit}
 use Rattle.sheet.proofs.Faults.{Inside, fault-inside}

@@ -1,5 +1,4 @@
 -- `exports::yunthirel_check_word` meets its contract, answer by answer. Assumes nothing.
-use borrow.Author.Rules.{rules}
 use mathlib.Core.Path.{sym, ap, ◌∙◌}
 use Rattle.exports.specs.Codes.{word_code}
 use Rattle.exports.proofs.yunthirel_check_word.Goals as goal

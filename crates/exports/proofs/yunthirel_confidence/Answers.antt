@@ -1,5 +1,4 @@
 -- `exports::yunthirel_confidence` meets its contract: the decision's confidence, or that of a refusal. Assumes nothing.
-use borrow.Author.Rules.{rules}
 use mathlib.Core.Path.{sym, ap, ◌∙◌}
 use Rattle.exports.specs.Codes.{confidence_of}
 use Rattle.exports.proofs.yunthirel_confidence.Goals as goal

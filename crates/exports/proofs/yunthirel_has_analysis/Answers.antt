@@ -1,5 +1,4 @@
 -- `exports::yunthirel_has_analysis` meets its contract, answer by answer: the place of a refusal is small enough. Assumes nothing.
-use borrow.Author.Rules.{rules}
 use mathlib.Core.Path.{sym, ap, ◌∙◌}
 use Rattle.exports.specs.Codes.{has_code}
 use Rattle.exports.proofs.Bounds.{has-refused}

@@ -1,5 +1,4 @@
 -- `exports::yunthirel_origin` meets its contract: the decision, or the refusal, whose place is small enough. Assumes nothing.
-use borrow.Author.Rules.{rules}
 use mathlib.Core.Path.{sym, ap, ◌∙◌}
 use Rattle.exports.specs.Codes.{origin_code}
 use Rattle.exports.proofs.Bounds.{decision-refused}

@@ -1,5 +1,4 @@
 -- `exports::yunthirel_progressive` meets its contract: the places of a refusal and of a form are small enough for their bits. Assumes nothing.
-use borrow.Author.Rules.{rules}
 use mathlib.Core.Path.{sym, ap, ◌∙◌}
 use Rattle.exports.specs.Codes.{progressive_code}
 use Rattle.exports.proofs.Bounds.{analyzed_small, form_small}

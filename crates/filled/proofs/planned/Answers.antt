@@ -1,8 +1,6 @@
 -- `filled::planned` meets its contract: what is said of the list decides, then the room. Assumes nothing.
 use native.Mathlib.Omega.{arith}
-use borrow.Author.Rules.{rules}
-use mathlib.Core.Path.{◌≡◌, refl, sym, ◌∙◌, ap}
-use mathlib.Core.List.{List}
+use mathlib.Core.Path.{refl, sym, ◌∙◌, ap}
 use lib.ListN.{length}
 use Rattle.ranking.specs.declared.Classified.{Classified}
 use Rattle.filled.proofs.Outcomes.{is_refused, is_too_short, is_written}

@@ -4,7 +4,6 @@ use mathlib.Core.List.{List, ◌++◌}
 use Prim.Native.Nat.{ℕ}
 use lib.ListN.{drop}
 use Rattle.exports.proofs.Put.{candidate-bytes}
-use borrow.Author.Rules.{rules}
 use Rattle.exports.proofs.parts.put_candidate.Goals as goal
 
 pub returns : goal.returns

@@ -1,9 +1,9 @@
 -- `parts::put_candidates` meets its contract: the rows stored so far stand at the front, one after the other. Assumes nothing.
-use Prim.Native.Nat.{ℕ, ◌+◌, ◌-◌, ◌*◌, ◌≤◌}
+use Prim.Native.Nat.{ℕ, ◌*◌}
 use native.Mathlib.Omega.{arith}
-use mathlib.Core.Path.{◌≡◌, refl, sym, ap, ◌∙◌}
+use mathlib.Core.Path.{◌≡◌, refl, ap, ◌∙◌}
 use mathlib.Core.List.{◌++◌}
-use lib.ListN.{length, take, drop, length-map}
+use lib.ListN.{length, take, drop}
 use Rattle.roots.specs.Lists.{no_candidate}
 use Rattle.exports.specs.Rows.{each}
 use Rattle.exports.specs.Filled.{candidate_bytes}

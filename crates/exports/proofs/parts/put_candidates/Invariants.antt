@@ -1,14 +1,10 @@
 -- `parts::put_candidates` meets its contract: the rows stored so far stand at the front, one after the other. Assumes nothing.
-use Prim.Native.Nat.{ℕ, ◌+◌, ◌-◌, ◌*◌, ◌≤◌}
-use native.Mathlib.Omega.{arith}
-use mathlib.Core.Path.{◌≡◌, refl, sym, ap, ◌∙◌}
+use Prim.Native.Nat.{◌-◌, ◌*◌, ◌≤◌}
+use mathlib.Core.Path.{◌≡◌}
 use mathlib.Core.List.{◌++◌}
-use lib.ListN.{length, take, drop, length-map}
-use Rattle.roots.specs.Lists.{no_candidate}
+use lib.ListN.{length, take, drop}
 use Rattle.exports.specs.Rows.{each}
 use Rattle.exports.specs.Filled.{candidate_bytes}
-use Rattle.exports.proofs.Widths.{store_none, store_next}
-use borrow.Author.Rules.{rules}
 use Rattle.exports.proofs.parts.put_candidates.Given as goal
 
 abbrev pub invariant-loop-i : goal.invariant-loop-i

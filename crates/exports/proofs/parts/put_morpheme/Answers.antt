@@ -5,7 +5,6 @@ use Prim.Native.Nat.{ℕ}
 use lib.ListN.{drop}
 use Rattle.exports.specs.Filled.{morpheme_bytes}
 use Rattle.exports.proofs.Put.{morpheme-bytes, stored_short, stored_long}
-use borrow.Author.Rules.{rules}
 use Rattle.exports.proofs.parts.put_morpheme.Goals as goal
 
 pub returns-then-out-lt33 : goal.returns-then-out-lt33

@@ -1,6 +1,5 @@
 -- `parts::put_parts` meets its contract. Assumes nothing.
 use Rattle.std.proofs.Common.{ℕ, List, ◌++◌, drop, ap}
-use borrow.Author.Rules.{rules}
 use Rattle.exports.proofs.parts.put_parts.Goals as goal
 
 pub returns : goal.returns

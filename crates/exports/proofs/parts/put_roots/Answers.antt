@@ -1,13 +1,11 @@
 -- `parts::put_roots` meets its contract. Assumes nothing.
-use Prim.Native.Nat.{◌≤◌}
 use native.Mathlib.Omega.{arith}
 use mathlib.Core.Path.{◌≡◌, sym, ◌∙◌}
-use lib.ListN.{length, length-map}
+use lib.ListN.{length}
 use lib.Seq.{length-take-le}
 use Rattle.roots.specs.Lists.{rows_of}
 use Rattle.exports.specs.Filled.{candidate_bytes}
 use Rattle.exports.proofs.Widths.{rows_short, rows_long}
-use borrow.Author.Rules.{rules}
 use Rattle.exports.proofs.parts.put_roots.Goals as goal
 use Rattle.exports.proofs.parts.put_roots.Goals.{Start}
 

@@ -5,7 +5,6 @@ use Rattle.roots.specs.Lists.{rows_of}
 use Rattle.exports.specs.Filled.{candidates_if}
 use Rattle.exports.proofs.Bounds.{inputs_refused}
 use Rattle.exports.proofs.Put.{candidates_is, both}
-use borrow.Author.Rules.{rules}
 use Rattle.exports.proofs.parts.yunthirel_candidates.Goals as goal
 
 pub refusal_code-requires : goal.refusal_code-requires

@@ -4,7 +4,6 @@ use Rattle.sheet.specs.declared.inputs.Inputs.{Inputs}
 use Rattle.exports.specs.Filled.{decompose_if}
 use Rattle.exports.proofs.Bounds.{inputs_refused}
 use Rattle.exports.proofs.Put.{answer_inputs, decompose_is, both}
-use borrow.Author.Rules.{rules}
 use Rattle.exports.proofs.parts.yunthirel_decompose.Goals as goal
 
 pub refusal_code-requires : goal.refusal_code-requires

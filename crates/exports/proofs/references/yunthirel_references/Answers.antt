@@ -2,7 +2,6 @@
 use mathlib.Core.Path.{ap, ◌∙◌}
 use Rattle.exports.specs.Codes.{written_code}
 use Rattle.exports.proofs.Reported.{report_small}
-use borrow.Author.Rules.{rules}
 use Rattle.exports.proofs.references.yunthirel_references.Goals as goal
 
 pub written_code-requires : goal.written_code-requires

@@ -1,7 +1,6 @@
 -- `exports::rescue::rescued_code` meets its contract, case by case. Assumes nothing.
 use mathlib.Core.Path.{sym, ap, subst, ◌∙◌}
 use Rattle.exports.specs.Rescue.{Fitting, rescued_code}
-use borrow.Author.Rules.{rules}
 use Rattle.exports.proofs.rescue.rescued_code.Goals as goal
 
 pub sizes_code-requires : goal.sizes_code-requires

@@ -4,7 +4,6 @@ use Rattle.rescued.specs.declared.entry.Rescued.{Rescued}
 use Rattle.rescued.specs.Answers.{kept_left, report_left}
 use Rattle.exports.specs.Rescue.{rescued_code}
 use Rattle.exports.proofs.Fitted.{rescue_fits}
-use borrow.Author.Rules.{rules}
 use Rattle.exports.proofs.rescue.yunthirel_rescue.Goals as goal
 
 pub rescued_code-requires : goal.rescued_code-requires

@@ -1,12 +1,10 @@
 -- `rows::accepted_rows` meets its contract: more than 64 kept are refused, and else what is kept is stored. Assumes nothing.
-use Prim.Native.Nat.{ℕ}
 use mathlib.Core.Path.{◌≡◌, sym, ap, ◌∙◌}
 use Rattle.sheet.proofs.Refusals.{accepted-both}
 use Rattle.sheet.specs.Inputs.{inputs_of}
 use Rattle.sheet.specs.declared.inputs.Inputs.TheVariants as inputs
 use Rattle.exports.specs.Rows.{Filled}
 use Rattle.exports.proofs.Kept.{filled-over, filled-rows}
-use borrow.Author.Rules.{rules}
 use Rattle.exports.proofs.rows.accepted_rows.Goals as goal
 use Rattle.exports.proofs.rows.accepted_rows.Goals.{Start}
 

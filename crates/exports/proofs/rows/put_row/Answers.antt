@@ -1,8 +1,7 @@
 -- `rows::put_row` meets its contract: the reading's bytes, and behind them those of its root's origin. Assumes nothing.
-use mathlib.Core.Path.{◌≡◌, refl, sym, ap, ◌∙◌}
-use mathlib.Core.List.{List, ◌∷◌, [], ◌++◌}
+use mathlib.Core.Path.{◌≡◌, refl, ap, ◌∙◌}
+use mathlib.Core.List.{List, ◌∷◌, ◌++◌}
 use Prim.Native.Nat.{ℕ}
-use native.Mathlib.Omega.{arith}
 use lib.Ieee.{binary32, to_bits}
 use lib.ListN.{drop}
 use Rattle.ranking.specs.Stored.{reading_bytes}
@@ -10,7 +9,6 @@ use Rattle.ranking.specs.declared.Classified.{Classified}
 use Rattle.exports.specs.Codes.{origin_number, source_number}
 use Rattle.exports.specs.Rows.{four_bytes, row_bytes}
 use Rattle.exports.proofs.Put.{behind-front}
-use borrow.Author.Rules.{rules}
 use Rattle.exports.proofs.rows.put_row.Goals as goal
 
 -- the bytes behind the reading

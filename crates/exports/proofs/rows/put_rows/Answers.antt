@@ -1,5 +1,5 @@
 -- `rows::put_rows` meets its contract: the rows stored so far stand at the front, one after the other. Assumes nothing.
-use Prim.Native.Nat.{ℕ, ◌+◌, ◌-◌, ◌*◌, ◌≤◌}
+use Prim.Native.Nat.{ℕ, ◌-◌, ◌*◌}
 use native.Mathlib.Omega.{arith}
 use mathlib.Core.Path.{◌≡◌, refl, sym, ap, ◌∙◌}
 use mathlib.Core.List.{List, ◌++◌}
@@ -7,10 +7,8 @@ use lib.ListN.{length, take, drop}
 use lib.Seq.{take_all}
 use borrow.Rule.Slice.PartMut.{mid_of}
 use borrow.Author.Rules.{rules}
-use Rattle.sheet.specs.Replies.{Indexed, reply}
+use Rattle.sheet.specs.Replies.{reply}
 use Rattle.ranking.specs.declared.Classified.{Classified}
-use Rattle.ranking.specs.Lists.{list_limit}
-use Rattle.ranking.specs.Kept.{kept_bytes}
 use Rattle.ranking.specs.Places.{no_row}
 use Rattle.paths.specs.Readings.{classified}
 use Rattle.exports.specs.Rows.{each, row_bytes, row_width}

@@ -1,21 +1,13 @@
 -- `rows::put_rows` meets its contract: the rows stored so far stand at the front, one after the other. Assumes nothing.
-use Prim.Native.Nat.{ℕ, ◌+◌, ◌-◌, ◌*◌, ◌≤◌}
-use native.Mathlib.Omega.{arith}
-use mathlib.Core.Path.{◌≡◌, refl, sym, ap, ◌∙◌}
-use mathlib.Core.List.{List, ◌++◌}
+use Prim.Native.Nat.{◌-◌, ◌*◌, ◌≤◌}
+use mathlib.Core.Path.{◌≡◌}
+use mathlib.Core.List.{◌++◌}
 use lib.ListN.{length, take, drop}
-use lib.Seq.{take_all}
-use borrow.Rule.Slice.PartMut.{mid_of}
-use borrow.Author.Rules.{rules}
-use Rattle.sheet.specs.Replies.{Indexed, reply}
-use Rattle.ranking.specs.declared.Classified.{Classified}
+use Rattle.sheet.specs.Replies.{Indexed}
 use Rattle.ranking.specs.Lists.{list_limit}
 use Rattle.ranking.specs.Kept.{kept_bytes}
-use Rattle.ranking.specs.Places.{no_row}
-use Rattle.paths.specs.Readings.{classified}
 use Rattle.exports.specs.Rows.{each, row_bytes, row_width}
-use Rattle.exports.proofs.Widths.{rows_short, rows_long, store_none, store_next}
-use Rattle.exports.proofs.Kept.{rows_for, rows-counted, row_is}
+use Rattle.exports.proofs.Kept.{rows_for}
 use Rattle.exports.proofs.rows.put_rows.Given as goal
 
 abbrev pub invariant-loop-i : goal.invariant-loop-i

@@ -1,14 +1,13 @@
 -- `rows::rows_by` meets its contract: the starts stored of an accepted sheet stand for it, and a refusal is the lowest that applies. Assumes
 -- nothing.
 use Prim.Native.Nat.{ℕ}
-use mathlib.Core.Path.{◌≡◌, sym, ap, ◌∙◌}
+use mathlib.Core.Path.{sym, ap, ◌∙◌}
 use mathlib.Core.List.{List}
 use lib.Seq.{length-take-le}
 use Rattle.sheet.proofs.Refusals.{refused-placed}
 use Rattle.lookup.proofs.Readied.{said-refused, indexed}
 use Rattle.exports.specs.Rows.{Filled}
 use Rattle.exports.proofs.Kept.{filled-refused}
-use borrow.Author.Rules.{rules}
 use Rattle.exports.proofs.rows.rows_by.Goals as goal
 use Rattle.exports.proofs.rows.rows_by.Goals.{After-prepare_sheet-ready}
 

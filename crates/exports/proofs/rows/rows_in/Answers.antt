@@ -8,7 +8,6 @@ use Rattle.sheet.specs.declared.inputs.Inputs.{Inputs}
 use Rattle.lookup.proofs.Readied.{said-indexed, word-said}
 use Rattle.exports.specs.Rows.{Filled}
 use Rattle.exports.proofs.Kept.{filled-refused}
-use borrow.Author.Rules.{rules}
 use Rattle.exports.proofs.rows.rows_in.Goals as goal
 use Rattle.exports.proofs.rows.rows_in.Goals.{After-prepare_word-inputs}
 

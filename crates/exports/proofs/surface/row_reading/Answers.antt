@@ -1,7 +1,6 @@
 -- `surface::row_reading` meets its contract. Assumes nothing.
 use mathlib.Core.Path.{◌∙◌}
 use Rattle.exports.proofs.Surfaces.{row_long, row-short}
-use borrow.Author.Rules.{rules}
 use Rattle.exports.proofs.surface.row_reading.Goals as goal
 
 pub returns-then-row-lt-WIDTH : goal.returns-then-row-lt-WIDTH

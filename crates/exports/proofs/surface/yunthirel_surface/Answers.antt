@@ -1,16 +1,11 @@
 -- `surface::yunthirel_surface` meets its contract: the refusal of the word, or the text that the row makes. Assumes nothing.
-use Prim.Native.Nat.{ℕ}
-use mathlib.Core.Path.{◌≡◌, refl, sym, ap, ◌∙◌}
-use mathlib.Core.List.{List}
+use mathlib.Core.Path.{refl, sym, ap, ◌∙◌}
 use Rattle.ranking.specs.declared.Reading.{Reading}
-use Rattle.sheet.specs.declared.inputs.Inputs.{Inputs}
 use Rattle.paths.specs.Recomposed.{surface_text}
 use Rattle.writing.specs.Placed.{written_of, text_over}
 use Rattle.exports.specs.Codes.{written_code}
-use Rattle.exports.specs.Surface.{reading_in, surface_if, surface_filled}
 use Rattle.exports.proofs.Surfaces.{by_word, word-placed, word_is_short, surface_small, surface_is}
 use Rattle.exports.proofs.Put.{both}
-use borrow.Author.Rules.{rules}
 use Rattle.exports.proofs.surface.yunthirel_surface.Goals as goal
 
 pub refusal_code-requires : goal.refusal_code-requires

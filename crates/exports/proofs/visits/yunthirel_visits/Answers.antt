@@ -1,6 +1,5 @@
 -- `exports::visits::yunthirel_visits` meets its contract, answer by answer: the number and the place of a refusal are small enough. Assumes nothing.
 use native.Mathlib.Omega.{arith}
-use borrow.Author.Rules.{rules}
 use mathlib.Core.Path.{sym, ap, ◌∙◌}
 use Rattle.exports.specs.Codes.{visits_code}
 use Rattle.exports.proofs.Bounds.{visits_told}

@@ -1,8 +1,8 @@
 -- `copy_rows` meets its contract: one row more. Assumes nothing.
-use Rattle.std.proofs.Common.{◌≡◌, ℕ, ◌+◌, List, ◌++◌, length, take, drop, ap, ap₂, ◌∙◌, arith, add-one, set}
+use Rattle.std.proofs.Common.{◌≡◌, List, length, ap₂, ◌∙◌, arith, add-one, set}
 use Rattle.roots.specs.Lists.{no_candidate}
 use Rattle.roots.specs.declared.RootCandidate.{RootCandidate}
-use Rattle.filled.proofs.Mixed.{mixed, mixed_next}
+use Rattle.filled.proofs.Mixed.{mixed_next}
 use Rattle.filled.proofs.candidates.copy_rows.Goals as goal
 
 pub loop-i-preserved : goal.loop-i-preserved

@@ -1,8 +1,6 @@
 -- `candidates::planned` meets its contract: what is said of word and sheet decides, then the room. Assumes nothing.
 use native.Mathlib.Omega.{arith}
-use borrow.Author.Rules.{rules}
-use mathlib.Core.Path.{◌≡◌, refl, sym, ◌∙◌, ap}
-use mathlib.Core.List.{List}
+use mathlib.Core.Path.{refl, sym, ◌∙◌, ap}
 use lib.ListN.{length}
 use Rattle.roots.specs.declared.RootCandidate.{RootCandidate}
 use Rattle.filled.proofs.RootOutcomes.{is_refused, is_too_short, is_written}
