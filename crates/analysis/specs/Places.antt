@@ -20,8 +20,8 @@ root_found ask surface c w e b prefixes =
     pick (is_supported ask (between w b e)) (built ask surface e b (between w b e) prefixes c ∷ []) []
 
 -- what every step of the walk is lent: an accepted sheet with its line starts, a word of at most 192 bytes, and the two tables
-pub record Lent (word sheet starts texts cuts forms formCuts : List ℕ) : Type 0 where
+pub record Lent (word sheet starts texts cuts forms form_cuts : List ℕ) : Type 0 where
   pub indexed : Indexed sheet starts
   pub texts_laid : Laid affixes texts cuts
-  pub forms-laid : Laid prefix_forms forms formCuts
+  pub forms-laid : Laid prefix_forms forms form_cuts
   pub short : length word ≤ 192

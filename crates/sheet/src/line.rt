@@ -48,7 +48,7 @@ fn is_link(name: &[u8]) -> bool
 // Whether the value, a run that holds no forbidden byte, is what the first letter asks for.
 fn is_meant(letter: u8, name: &[u8], value: &[u8]) -> bool
     requires { holds_forbidden value.now ≡ false }
-    ensures { result ≡ is_meant (record { letter = letter; name = name.entry.now; value = value.now }) }
+    ensures { result ≡ is_meant (record { letter = letter; name = name.now; value = value.now }) }
 {
     if letter == b'k' {
         return is_kind(value);

@@ -14,11 +14,14 @@ pub enum WordCheck {
     Forbidden,
 }
 
+// The most bytes of a word.
+const WORD_BYTES: usize = 192;
+
 // Whether the word is accepted; of several reasons to refuse it, the one with the lowest number.
 pub fn check_word(word: &[u8]) -> WordCheck
     ensures { result ≡ word_check word.now }
 {
-    if 192 < word.len() {
+    if WORD_BYTES < word.len() {
         return WordCheck::TooLong;
     }
     if !is_utf8(word) {
