@@ -2,13 +2,14 @@
 // one line with the number of the refusal. An input is read one byte past the limit, so that too long a one is told from the longest.
 #![tactic(auto)]
 
-use libc::{STDIN_FILENO, STDOUT_FILENO};
 use listing::whole::answer_of;
+use std::io;
+use std::io::{Read, Write};
 
-fn main() {
-    let mut input = [0u8; 65537];
-    let n = io::read_full(STDIN_FILENO, &mut input);
-    let mut out = io::large_buffer();
-    let size = answer_of(&input[..n], &mut out);
-    io::write_all(STDOUT_FILENO, &out[..size]);
+fn main(rt: HostRuntime) -> io::Result<()> {
+    let mut input = Vec::new(rt.alloc());
+    rt.stdin().take(65537).read_to_end(&mut input)?;
+    let mut out = [0u8; 65536];
+    let size = answer_of(&input, &mut out);
+    rt.stdout().write_all(&out[..size])
 }

@@ -2,13 +2,14 @@
 // the refusal. The sheet is read one byte past its limit, so that too long a one is told from the longest.
 #![tactic(auto)]
 
-use libc::{STDIN_FILENO, STDOUT_FILENO};
 use referred::whole::answer_of;
+use std::io;
+use std::io::{Read, Write};
 
-fn main() {
-    let mut sheet = [0u8; 65537];
-    let n = io::read_full(STDIN_FILENO, &mut sheet);
+fn main(rt: HostRuntime) -> io::Result<()> {
+    let mut sheet = Vec::new(rt.alloc());
+    rt.stdin().take(65537).read_to_end(&mut sheet)?;
     let mut out = [0u8; 65549];
-    let size = answer_of(&sheet[..n], &mut out);
-    io::write_all(STDOUT_FILENO, &out[..size]);
+    let size = answer_of(&sheet, &mut out);
+    rt.stdout().write_all(&out[..size])
 }

@@ -3,15 +3,16 @@
 // long a one is told from the longest.
 #![tactic(auto)]
 
-use libc::{STDIN_FILENO, STDOUT_FILENO};
+use std::io;
+use std::io::{Read, Write};
 
 pub mod lines;
 
-fn main() {
-    let mut input = [0u8; 65537];
-    let n = io::read_full(STDIN_FILENO, &mut input);
+fn main(rt: HostRuntime) -> io::Result<()> {
+    let mut input = Vec::new(rt.alloc());
+    rt.stdin().take(65537).read_to_end(&mut input)?;
     let mut list = [0u32; 32768];
     let mut out = [0u8; 262157];
-    let size = lines::answer_of(&input[..n], &mut list, &mut out);
-    io::write_all(STDOUT_FILENO, &out[..size]);
+    let size = lines::answer_of(&input, &mut list, &mut out);
+    rt.stdout().write_all(&out[..size])
 }
