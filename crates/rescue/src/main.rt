@@ -3,28 +3,29 @@
 // longer than the sheet.
 #![tactic(auto)]
 
-ghost use Rattle.std.specs.Prelude.{◌≤◌, ◌<◌, length};
+ghost use Rattle.std.specs.Prelude.{◌≤◌, ◌<◌, IfOk, length};
 ghost use Rattle.sheet.specs.Limits.{sheet_limit};
 ghost use Rattle.sheet.specs.Walks.{Standing};
 
-use libc::{STDERR_FILENO, STDIN_FILENO, STDOUT_FILENO};
 use rescued::part::{kept_of, report_part};
 use sheet::walk::{Before, Walk};
+use std::io;
+use std::io::{Read, Write};
 
 // A part of the report of a sheet: its lines from the walk's place on, at least one where there is a line. Where it goes on.
-fn report_some(sheet: &[u8], walk: Walk) -> Walk
+fn report_some<W: Write>(told: &mut W, sheet: &[u8], walk: Walk) -> io::Result<Walk>
     requires { (length sheet.now ≤ sheet_limit) × (walk.at ≤ length sheet.now) × Standing sheet.now walk.last }
-    ensures { (result.at ≤ length sheet.now) × Standing sheet.now result.last × (walk.at < length sheet.now → walk.at < result.at) }
+    ensures { IfOk result (λ next. (next.at ≤ length sheet.now) × Standing sheet.now next.last × (walk.at < length sheet.now → walk.at < next.at)) }
 {
     let mut out = [0u8; 4096];
     let part = report_part(sheet, walk, &mut out);
     let size = part.size;
-    io::write_all(STDERR_FILENO, &out[..size]);
-    part.walk
+    told.write_all(&out[..size])?;
+    Ok(part.walk)
 }
 
 // The report of a sheet, part by part.
-fn report(sheet: &[u8])
+fn report<W: Write>(told: &mut W, sheet: &[u8]) -> io::Result<()>
     requires { length sheet.now ≤ sheet_limit }
 {
     let mut walk = Walk {
@@ -32,19 +33,19 @@ fn report(sheet: &[u8])
         last: Before::Nothing,
     };
     while walk.at < sheet.len() {
-        walk = report_some(sheet, walk);
+        walk = report_some(told, sheet, walk)?;
     }
+    Ok(())
 }
 
-fn main() {
-    let mut sheet = [0u8; 65537];
-    let n = io::read_full(STDIN_FILENO, &mut sheet);
-    if 65536 < n {
-        io::write_all(STDERR_FILENO, b"(refused 4)\n");
-        return;
+fn main(rt: HostRuntime) -> io::Result<()> {
+    let mut sheet = Vec::new(rt.alloc());
+    rt.stdin().take(65537).read_to_end(&mut sheet)?;
+    if 65536 < sheet.len() {
+        return rt.stderr().write_all(b"(refused 4)\n");
     }
-    let mut out = io::large_buffer();
-    let size = kept_of(&sheet[..n], &mut out);
-    io::write_all(STDOUT_FILENO, &out[..size]);
-    report(&sheet[..n]);
+    let mut out = [0u8; 65536];
+    let size = kept_of(&sheet, &mut out);
+    rt.stdout().write_all(&out[..size])?;
+    report(&mut rt.stderr(), &sheet)
 }
