@@ -4,7 +4,13 @@
 // that can't be read is told on standard error, and then nothing is printed.
 #![tactic(auto)]
 
+ghost use Rattle.std.specs.Prelude.{[], ◌++◌, IfSome, OnOk};
+ghost use Rattle.std.specs.Io.KnownBytes.{Appends};
+ghost use Rattle.refusals.specs.Refusals.{numbers_of};
+ghost use Rattle.sheet.specs.Inputs.{Placed};
 ghost use Rattle.sheet.specs.Replies.{Indexed};
+ghost use Rattle.writing.specs.Refused.{refused_text};
+ghost use Rattle.visits.specs.Printed.{lines_of, unended, last_line, printed};
 
 use crate::lines::{print_last, print_stretch};
 use lookup::lines::prepare_sheet;
@@ -20,52 +26,62 @@ use writing::write_refused;
 pub mod lines;
 
 // Prints the line of a refusal.
-fn say_refused<W: Write>(printed: &mut W, refusal: Refusal) -> io::Result<()> {
+fn say_refused<W: Write>(told: &mut W, refusal: Refusal) -> io::Result<()>
+    ensures { Placed refusal → OnOk result (Appends (W.contents told.old) (W.contents told.new) (refused_text (numbers_of refusal))) }
+{
     let mut out = [0u8; 64];
     let written = write_refused(refusal, &mut out);
     match written {
-        Written::Wrote(size) => printed.write_all(&out[..size]),
+        Written::Wrote(size) => told.write_all(&out[..size]),
         Written::Refused(_) => Ok(()),
     }
 }
 
-// Prints the lines of all words that are read.
+// Prints the lines of all words that a reader has left. A proved loop has to end, and nothing says that an input does: so its turns are
+// counted, up to a number that no run uses up.
 fn answer_all<R: Read, W: Write>(
     words: &mut R,
-    printed: &mut W,
+    told: &mut W,
     sheet: &[u8],
     starts: &[Start],
 ) -> io::Result<()>
     requires { Indexed sheet.now starts.now }
+    ensures { OnOk result (IfSome (R.remaining words.old) (λ input.
+        Appends (W.contents told.old) (W.contents told.new) (lines_of sheet.now [] input ++ last_line sheet.now (unended [] input)))) }
 {
     let mut word = [0u8; 193];
     let mut text = [0u8; 4096];
     let mut out = [0u8; 65536];
     let mut kept: usize = 0;
     for _ in 0..u64::MAX {
-        let n = match words.read(&mut text) {
-            Ok(0) => break,
-            Ok(n) => n,
-            Err(error) if error.kind() == ErrorKind::Interrupted => continue,
+        match words.read(&mut text) {
+            Ok(0) => {
+                let size = print_last(&word[..kept], sheet, starts, &mut out);
+                return told.write_all(&out[..size]);
+            }
+            Ok(n) => {
+                let done = print_stretch(&mut word, kept, &text[..n], sheet, starts, &mut out);
+                kept = done.kept;
+                told.write_all(&out[..done.size])?;
+            }
+            Err(error) if error.kind() == ErrorKind::Interrupted => {}
             Err(error) => return Err(error),
-        };
-        let done = print_stretch(&mut word, kept, &text[..n], sheet, starts, &mut out);
-        kept = done.kept;
-        printed.write_all(&out[..done.size])?;
+        }
     }
-    let size = print_last(&word[..kept], sheet, starts, &mut out);
-    printed.write_all(&out[..size])
+    Err(io::Error::from(ErrorKind::TimedOut))
 }
 
 // Checks the sheet, and goes on to the words where it is accepted.
-fn answer<R: Read, W: Write>(words: &mut R, printed: &mut W, sheet: &[u8]) -> io::Result<()> {
+fn answer<R: Read, W: Write>(words: &mut R, told: &mut W, sheet: &[u8]) -> io::Result<()>
+    ensures { OnOk result (IfSome (R.remaining words.old) (λ input. Appends (W.contents told.old) (W.contents told.new) (printed sheet.now input))) }
+{
     let mut starts: [Start; ALL_STARTS] = [0; ALL_STARTS];
     let ready = prepare_sheet(sheet, &mut starts);
     let lines = ready.lines;
     let inputs = ready.inputs;
     match inputs {
-        Inputs::Refused(refusal) => say_refused(printed, refusal),
-        Inputs::Accepted => answer_all(words, printed, sheet, &starts[..lines]),
+        Inputs::Refused(refusal) => say_refused(told, refusal),
+        Inputs::Accepted => answer_all(words, told, sheet, &starts[..lines]),
     }
 }
 
