@@ -1,4 +1,4 @@
-/* Word analysis for Nepali root indexes: the functions of the static library (`rt staticlib exports`), for x86-64 programs in C (C99 or
+/* Word analysis for Nepali root indexes: the functions of the static library (`rt lib` in crates/exports), for x86-64 programs in C (C99 or
  * later) and C++.
  *
  * A function takes slices, each as a pointer and a number of bytes, for a list of tokens of numbers. A pointer is not NULL, with 0 bytes too: data() of an empty

@@ -52,39 +52,39 @@ def read(source):
         if len(rows) != count:
             sys.exit("tables.py: %s has %d rows, not %d" % (name, len(rows), count))
     named = {
-        "pluralMarkers": plurals,
-        "caseMarkers": cases,
+        "plural_markers": plurals,
+        "case_markers": cases,
         "particles": particles,
         "suffixes": suffixes,
-        "stripSuffixes": strips,
-        "originWords": [word for word, _ in words],
+        "strip_suffixes": strips,
+        "origin_words": [word for word, _ in words],
     }
     tables = {name: [(row, row) for row in rows] for name, rows in named.items()}
-    tables["prefixLabels"] = [(label, "%s, label of %s" % (label, form)) for label, form in forms]
-    tables["prefixForms"] = [(form, "%s, form of %s" % (form, label)) for label, form in forms]
+    tables["prefix_labels"] = [(label, "%s, label of %s" % (label, form)) for label, form in forms]
+    tables["prefix_forms"] = [(form, "%s, form of %s" % (form, label)) for label, form in forms]
     return tables, [origin for _, origin in words]
 
 
 # the constants, each with the lists that it holds one after the other
 CONSTANTS = [
-    ("PREFIX_LABELS", "PREFIX_LABEL_STARTS", "PREFIX_FORMS, the labels", ["prefixLabels"]),
-    ("PREFIX_FORMS", "PREFIX_FORM_STARTS", "PREFIX_FORMS, the surface forms", ["prefixForms"]),
-    ("AFFIXES", "AFFIX_STARTS", "PLURAL_MARKERS, CASE_MARKERS and PARTICLES, the order of paths", ["pluralMarkers", "caseMarkers", "particles"]),
+    ("PREFIX_LABELS", "PREFIX_LABEL_STARTS", "PREFIX_FORMS, the labels", ["prefix_labels"]),
+    ("PREFIX_FORMS", "PREFIX_FORM_STARTS", "PREFIX_FORMS, the surface forms", ["prefix_forms"]),
+    ("AFFIXES", "AFFIX_STARTS", "PLURAL_MARKERS, CASE_MARKERS and PARTICLES, the order of paths", ["plural_markers", "case_markers", "particles"]),
     ("SUFFIXES", "SUFFIX_STARTS", "SUFFIXES", ["suffixes"]),
-    ("STRIP_SUFFIXES", "STRIP_SUFFIX_STARTS", "STRIP_SUFFIXES of origin.rs", ["stripSuffixes"]),
-    ("ORIGIN_WORDS", "ORIGIN_STARTS", "ORIGIN_TABLE, the words", ["originWords"]),
+    ("STRIP_SUFFIXES", "STRIP_SUFFIX_STARTS", "STRIP_SUFFIXES of origin.rs", ["strip_suffixes"]),
+    ("ORIGIN_WORDS", "ORIGIN_STARTS", "ORIGIN_TABLE, the words", ["origin_words"]),
 ]
 
 # the lists, each with what it is
 LISTS = [
-    ("prefixLabels", "PREFIX_FORMS, the labels"),
-    ("prefixForms", "PREFIX_FORMS, the surface forms: row by row those of the labels"),
-    ("pluralMarkers", "PLURAL_MARKERS"),
-    ("caseMarkers", "CASE_MARKERS"),
+    ("prefix_labels", "PREFIX_FORMS, the labels"),
+    ("prefix_forms", "PREFIX_FORMS, the surface forms: row by row those of the labels"),
+    ("plural_markers", "PLURAL_MARKERS"),
+    ("case_markers", "CASE_MARKERS"),
     ("particles", "PARTICLES"),
     ("suffixes", "SUFFIXES"),
-    ("stripSuffixes", "STRIP_SUFFIXES of origin.rs"),
-    ("originWords", "ORIGIN_TABLE, the words"),
+    ("strip_suffixes", "STRIP_SUFFIXES of origin.rs"),
+    ("origin_words", "ORIGIN_TABLE, the words"),
 ]
 
 
@@ -113,10 +113,9 @@ def specs(tables, origins):
     out = [
         "-- The tables of the source (document 01, \"Modules\"), each a list of its rows in the source's order, by their bytes.",
         "-- Written by tools/tables.py from the source's tables.rs and origin.rs; src/rows.rt has the same rows. Assumes nothing.",
-        "use Prim.Native.Nat.{ℕ}",
-        "use mathlib.Core.List.{List, [], _∷_}",
-        "use Rattle·tables·specs.specs.declared.origins.Origin.{Origin}",
-        "use Rattle·tables·specs.specs.declared.origins.Origin.the-variants.{Tatsam, Tadbhav, Deshaj, Aagantuk}",
+        "use Rattle.std.specs.Prelude.{ℕ, List, [], ◌∷◌}",
+        "use Rattle.tables.specs.declared.origins.Origin.{Origin}",
+        "use Rattle.tables.specs.declared.origins.Origin.TheVariants.{Tatsam, Tadbhav, Deshaj, Aagantuk}",
         "",
     ]
     for name, what in LISTS:
@@ -124,15 +123,15 @@ def specs(tables, origins):
         for text, note in tables[name]:
             out.append("    (" + " ∷ ".join("0x%02X" % b for b in text.encode()) + " ∷ []) ∷  -- " + note)
         out += ["    []", ""]
-    out += ["-- ORIGIN_TABLE, the origins: row by row those of the words", "unfoldable pub originTags : List Origin", "originTags ="]
-    out += ["    %s ∷  -- %s" % (origin, word) for origin, (word, _) in zip(origins, tables["originWords"])] + ["    []"]
+    out += ["-- ORIGIN_TABLE, the origins: row by row those of the words", "unfoldable pub origin_tags : List Origin", "origin_tags ="]
+    out += ["    %s ∷  -- %s" % (origin, word) for origin, (word, _) in zip(origins, tables["origin_words"])] + ["    []"]
     return "\n".join(out) + "\n"
 
 
 # the tables whose rows the exported functions name by number: constant, array of C, what it is, and the lists that it holds
 LABELS = [
-    ("PREFIX_LABELS", "yunthirel_prefix_labels", "PREFIX_FORMS, the labels: the prefix rows of readings, decompositions and candidates", ["prefixLabels"]),
-    ("AFFIXES", "yunthirel_affixes", "PLURAL_MARKERS, CASE_MARKERS and PARTICLES: the segment rows of readings", ["pluralMarkers", "caseMarkers", "particles"]),
+    ("PREFIX_LABELS", "yunthirel_prefix_labels", "PREFIX_FORMS, the labels: the prefix rows of readings, decompositions and candidates", ["prefix_labels"]),
+    ("AFFIXES", "yunthirel_affixes", "PLURAL_MARKERS, CASE_MARKERS and PARTICLES: the segment rows of readings", ["plural_markers", "case_markers", "particles"]),
     ("SUFFIXES", "yunthirel_suffixes", "SUFFIXES: the suffix rows of decompositions and candidates", ["suffixes"]),
 ]
 

@@ -1,11 +1,11 @@
-//! Links the static library: the archive named by YUNTHIREL_ARCHIVE, or target/staticlib/libexports.a of the repository. The path is
+//! Links the static library: the archive named by YUNTHIREL_ARCHIVE, or crates/exports/out/libexports.a of the repository. The path is
 //! to be absolute, since a build script runs in its crate's folder and not where the caller stands.
 
 use std::path::PathBuf;
 
 fn main() {
     println!("cargo:rerun-if-env-changed=YUNTHIREL_ARCHIVE");
-    let default = PathBuf::from(env!("CARGO_MANIFEST_DIR")).join("../../target/staticlib/libexports.a");
+    let default = PathBuf::from(env!("CARGO_MANIFEST_DIR")).join("../../crates/exports/out/libexports.a");
     let archive = std::env::var_os("YUNTHIREL_ARCHIVE").map_or(default, PathBuf::from);
     println!("cargo:rerun-if-changed={}", archive.display());
     if archive.is_relative() {

@@ -1,7 +1,7 @@
 //! Word analysis for Nepali root indexes: readings, root candidates, decomposition, progressive form and origin, each for a word
 //! and a *sheet* of the lexicon's answers; and the words of a running text.
 //!
-//! The answers are made by the proved library (`rt staticlib exports`); this crate lends it the slices and reads its codes. Words
+//! The answers are made by the proved library (`rt lib` in crates/exports); this crate lends it the slices and reads its codes. Words
 //! and sheets are bytes, since any bytes have an answer: a word or sheet that breaks a rule is refused with a [`Refusal`].
 //!
 //! ```

@@ -2,13 +2,26 @@
 // the refusal. The sheet is read one byte past its limit, so that too long a one is told from the longest.
 #![tactic(auto)]
 
-use libc::{STDIN_FILENO, STDOUT_FILENO};
-use referred::whole::answer_of;
+ghost use Rattle.std.specs.Prelude.{OnOk, IfSome};
+ghost use Rattle.std.specs.Io.KnownBytes.{Appends};
+ghost use Rattle.referred.specs.Answers.{printed};
 
-fn main() {
-    let mut sheet = [0u8; 65537];
-    let n = io::read_full(STDIN_FILENO, &mut sheet);
+use intake::read_at_most;
+use referred::whole::answer_of;
+use std::alloc::Global;
+use std::io;
+use std::io::{Read, Write};
+
+// Writes what is said of the sheet that a reader has left.
+fn answer<R: Read + Drop, W: Write>(alloc: Global, sheet: R, told: &mut W) -> io::Result<()>
+    ensures { OnOk result (IfSome (R.remaining sheet) (λ s. Appends (W.contents told.old) (W.contents told.new) (printed s))) }
+{
+    let sheet = read_at_most(alloc, sheet, 65537)?;
     let mut out = [0u8; 65549];
-    let size = answer_of(&sheet[..n], &mut out);
-    io::write_all(STDOUT_FILENO, &out[..size]);
+    let size = answer_of(&sheet, &mut out);
+    told.write_all(&out[..size])
+}
+
+fn main(rt: HostRuntime) -> io::Result<()> {
+    answer(rt.alloc(), rt.stdin(), &mut rt.stdout())
 }

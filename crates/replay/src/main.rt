@@ -3,56 +3,59 @@
 #![tactic(auto)]
 
 use blocks::case_at;
-use libc::{STDIN_FILENO, STDOUT_FILENO};
 use sheet::check::SheetCheck;
+use std::io;
+use std::io::{BufWriter, Read, Write};
 use text::word::WordCheck;
 
 // Writes a number and where it applies a place.
-fn say(number: u64, at: u64) {
-    io::print_decimal(STDOUT_FILENO, number);
+fn say<W: Write>(out: &mut W, number: u64, at: u64) -> io::Result<()> {
     if 4 < number {
-        io::write_all(STDOUT_FILENO, b" ");
-        io::print_decimal(STDOUT_FILENO, at);
+        writeln!(out, "{number} {at}")
+    } else {
+        writeln!(out, "{number}")
     }
-    io::write_all(STDOUT_FILENO, b"\n");
 }
 
 // Writes what is said of a sheet.
-fn say_sheet(sheet: &[u8]) {
+fn say_sheet<W: Write>(out: &mut W, sheet: &[u8]) -> io::Result<()> {
     let answer = sheet::check::check_sheet(sheet);
     match answer {
-        SheetCheck::Accepted => say(0, 0),
-        SheetCheck::TooLong => say(4, 0),
-        SheetCheck::NoForm(at) => say(5, at as u64),
-        SheetCheck::NotAbove(at) => say(6, at as u64),
+        SheetCheck::Accepted => say(out, 0, 0),
+        SheetCheck::TooLong => say(out, 4, 0),
+        SheetCheck::NoForm(at) => say(out, 5, at as u64),
+        SheetCheck::NotAbove(at) => say(out, 6, at as u64),
     }
 }
 
 // Writes what is said of a word and a sheet: the lowest number that applies.
-fn say_both(word: &[u8], sheet: &[u8]) {
+fn say_both<W: Write>(out: &mut W, word: &[u8], sheet: &[u8]) -> io::Result<()> {
     let answer = text::word::check_word(word);
     match answer {
-        WordCheck::Accepted => say_sheet(sheet),
-        WordCheck::TooLong => say(1, 0),
-        WordCheck::NotUtf8 => say(2, 0),
-        WordCheck::Forbidden => say(3, 0),
+        WordCheck::Accepted => say_sheet(out, sheet),
+        WordCheck::TooLong => say(out, 1, 0),
+        WordCheck::NotUtf8 => say(out, 2, 0),
+        WordCheck::Forbidden => say(out, 3, 0),
     }
 }
 
-fn replay(s: &[u8]) {
+fn replay<W: Write>(out: &mut W, s: &[u8]) -> io::Result<()> {
     let mut at = 0;
     while at < s.len() {
         let case = case_at(s, at);
         let word = case.word;
         let sheet = case.sheet;
         let end = case.end;
-        say_both(&s[word..sheet], &s[sheet..end]);
+        say_both(out, &s[word..sheet], &s[sheet..end])?;
         at = case.next;
     }
+    Ok(())
 }
 
-fn main() {
-    let mut buffer = io::large_buffer();
-    let n = io::read_full(STDIN_FILENO, &mut buffer);
-    replay(&buffer[..n]);
+fn main(rt: HostRuntime) -> io::Result<()> {
+    let mut cases = Vec::new(rt.alloc());
+    rt.stdin().read_to_end(&mut cases)?;
+    let mut out = BufWriter::new(rt.alloc(), rt.stdout())?;
+    replay(&mut out, &cases)?;
+    out.flush()
 }

@@ -1,20 +1,17 @@
 -- Lines of a list that holds starts and ends, one after the other: one turn, the end, and that they are the tokens' lines; and how long
 -- they are. The proofs of lines.rt cite these. Assumes nothing.
-use Prim.Native.Nat.{ℕ, zero, suc, ◌+◌, ◌*◌, ◌≤◌, ◌<◌}
-use native.Mathlib.Numerals.{add-one}
+use Prim.Native.Nat.{ℕ, suc, ◌+◌, ◌*◌, ◌≤◌, ◌<◌}
 use native.Mathlib.Omega.{arith}
 use mathlib.Core.Path.{◌≡◌, refl, sym, ap, subst, ◌∙◌}
 use mathlib.Core.Logic.{◌⊎◌, inl, inr}
 use mathlib.Core.List.{List, [], ◌∷◌, ◌++◌, Memᴰ}
 use lib.ListN.{length, take, drop, get_or, length-append, drop_of_length-le}
 use lib.Seq.{length-take-le, drop-cons, get_or-take, take_at}
-use Rattle.text.specs.Utf8.{is_utf8}
 use Rattle.refusals.specs.declared.Refusal.{Refusal}
 use Rattle.refusals.specs.declared.Refusal.TheVariants.{TextTooLong, TextNotUtf8, ListTooShort}
 use Rattle.refusals.specs.declared.Written.{Written}
 use Rattle.refusals.specs.declared.Written.TheVariants.{Wrote, Refused}
-use Rattle.refusals.specs.Refusals.{number, numbers_of}
-use Rattle.writing.specs.Decimal.{decimal}
+use Rattle.refusals.specs.Refusals.{numbers_of}
 use Rattle.writing.specs.Refused.{refused_text}
 use Rattle.writing.proofs.Sizes.{count-size, number_size}
 use Rattle.tokenizer.specs.Tokens.{Span}

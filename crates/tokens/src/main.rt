@@ -3,15 +3,28 @@
 // long a one is told from the longest.
 #![tactic(auto)]
 
-use libc::{STDIN_FILENO, STDOUT_FILENO};
+ghost use Rattle.std.specs.Prelude.{OnOk, IfSome};
+ghost use Rattle.std.specs.Io.KnownBytes.{Appends};
+ghost use Rattle.tokens.specs.Printed.{printed};
+
+use intake::read_at_most;
+use std::alloc::Global;
+use std::io;
+use std::io::{Read, Write};
 
 pub mod lines;
 
-fn main() {
-    let mut input = [0u8; 65537];
-    let n = io::read_full(STDIN_FILENO, &mut input);
+// Writes the lines of the tokens of the text that a reader has left.
+fn answer<R: Read + Drop, W: Write>(alloc: Global, text: R, told: &mut W) -> io::Result<()>
+    ensures { OnOk result (IfSome (R.remaining text) (λ s. Appends (W.contents told.old) (W.contents told.new) (printed s))) }
+{
+    let text = read_at_most(alloc, text, 65537)?;
     let mut list = [0u32; 32768];
     let mut out = [0u8; 262157];
-    let size = lines::answer_of(&input[..n], &mut list, &mut out);
-    io::write_all(STDOUT_FILENO, &out[..size]);
+    let size = lines::answer_of(&text, &mut list, &mut out);
+    told.write_all(&out[..size])
+}
+
+fn main(rt: HostRuntime) -> io::Result<()> {
+    answer(rt.alloc(), rt.stdin(), &mut rt.stdout())
 }

@@ -1,7 +1,7 @@
 -- What the program prints, whatever stretches its input comes in: for a sheet that is accepted a line for each word of the whole input, in
 -- order; for any other its refusal alone. `print_stretch` gives the lines of a stretch, `print_last` that of the last word. Assumes nothing.
 use Prim.Native.Nat.{ℕ}
-use mathlib.Core.Path.{◌≡◌, refl, sym, ap, ◌∙◌}
+use mathlib.Core.Path.{◌≡◌, sym, ap, ◌∙◌}
 use mathlib.Core.List.{List, [], ◌++◌}
 use Rattle.refusals.specs.Refusals.{numbers_of}
 use Rattle.refusals.specs.declared.Refusal.{Refusal}

@@ -4,26 +4,23 @@ use Prim.Native.Nat.{ℕ, zero, suc, ◌+◌, ◌*◌, ◌<◌, ◌≤◌}
 use native.Mathlib.Numerals.{add-one}
 use native.Mathlib.Omega.{arith}
 use mathlib.Core.Path.{◌≡◌, refl, sym, ap, ap₂, ◌∙◌}
-use mathlib.Core.Bool.{Bool, true, false, not}
-use mathlib.Core.List.{List, [], ◌∷◌, ◌++◌, append_assoc, append-nil}
-use lib.ListN.{length, take, drop, get_or, set, length-append, length-set, drop_of_length-le}
-use lib.Seq.{take-suc, drop-cons, take-append-le, take-take, take-set-le, take_at, take-length, length-take-le}
-use lib.Dec.{eqb, ltb}
+use mathlib.Core.Bool.{Bool, true, false}
+use mathlib.Core.List.{List, [], ◌∷◌, ◌++◌, append_assoc}
+use lib.ListN.{length, take, drop, get_or, set, length-append, drop_of_length-le}
+use lib.Seq.{drop-cons, take-append-le, take_at, length-take-le}
+use lib.Dec.{eqb}
 use borrow.Author.Tests.{lt-ltb, eq-eqb, ne_eqb}
 use Rattle.runs.specs.Runs.{pick}
 use Rattle.tables.proofs.Compared.{by_order}
-use Rattle.text.specs.Utf8.{is_utf8}
-use Rattle.text.specs.Names.{holds_forbidden}
 use Rattle.text.specs.Word.{word_limit, word_check}
 use Rattle.text.specs.declared.word.WordCheck.{WordCheck}
 use Rattle.text.specs.declared.word.WordCheck.TheVariants as words
 use Rattle.refusals.specs.Refusals.{numbers_of}
-use Rattle.refusals.specs.declared.Refusal.TheVariants.{WordTooLong, WordNotUtf8, WordForbidden}
+use Rattle.refusals.specs.declared.Refusal.TheVariants.{WordTooLong}
 use Rattle.sheet.specs.Inputs.{of_word}
 use Rattle.sheet.specs.Replies.{reply}
-use Rattle.writing.specs.Decimal.{decimal, digit, digits_in}
 use Rattle.writing.specs.Refused.{refused_text}
-use Rattle.writing.specs.Placed.{largest, placed, Wrote, Whole}
+use Rattle.writing.specs.Placed.{placed, Wrote, Whole}
 use Rattle.writing.proofs.Puts.{Upto}
 use Rattle.writing.proofs.Sizes.{digit-size, number_size}
 use Rattle.paths.specs.Visits.{visits_of}

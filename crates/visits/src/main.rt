@@ -1,100 +1,106 @@
 // Request (n)'s program, `visits SHEET`: the sheet by its path, and words on standard input, one a line and as many as there are; printed is
 // a line for each with the number of pieces visited, or with its refusal; for a refused sheet its refusal alone. The sheet is checked
 // once. Words are read stretch by stretch, and a sheet one byte past the limit, so that too long a one is told from the longest. A path
-// that can't be read is told on standard error, and then nothing is printed: no program here can hand back a status.
+// that can't be read is told on standard error, and then nothing is printed.
 #![tactic(auto)]
 
+ghost use Rattle.std.specs.Prelude.{[], ◌++◌, IfSome, OnOk};
+ghost use Rattle.std.specs.Io.KnownBytes.{Appends};
+ghost use Rattle.refusals.specs.Refusals.{numbers_of};
+ghost use Rattle.sheet.specs.Inputs.{Placed};
 ghost use Rattle.sheet.specs.Replies.{Indexed};
+ghost use Rattle.writing.specs.Refused.{refused_text};
+ghost use Rattle.visits.specs.Printed.{lines_of, unended, last_line, printed};
 
 use crate::lines::{print_last, print_stretch};
-use libc::{STDERR_FILENO, STDIN_FILENO, STDOUT_FILENO};
 use lookup::lines::prepare_sheet;
 use lookup::starts::Start;
 use refusals::{Refusal, Written};
 use sheet::inputs::Inputs;
 use sheet::limits::ALL_STARTS;
+use std::io::{ErrorKind, Read, Write};
+use std::rt::Files;
+use std::{env, fs, io};
 use writing::write_refused;
 
 pub mod lines;
 
 // Prints the line of a refusal.
-fn say_refused(refusal: Refusal) {
+fn say_refused<W: Write>(told: &mut W, refusal: Refusal) -> io::Result<()>
+    ensures { Placed refusal → OnOk result (Appends (W.contents told.old) (W.contents told.new) (refused_text (numbers_of refusal))) }
+{
     let mut out = [0u8; 64];
     let written = write_refused(refusal, &mut out);
     match written {
-        Written::Wrote(size) => {
-            io::write_all(STDOUT_FILENO, &out[..size]);
-        }
-        Written::Refused(_) => {}
+        Written::Wrote(size) => told.write_all(&out[..size]),
+        Written::Refused(_) => Ok(()),
     }
 }
 
-// Prints the lines of all words that are read. A proved loop has to end, and nothing says that an input does: so it counts its turns
-// down, from a number that no run uses up.
-fn answer_all(sheet: &[u8], starts: &[Start])
+// Prints the lines of all words that a reader has left. A proved loop has to end, and nothing says that an input does: so its turns are
+// counted, up to a number that no run uses up.
+fn answer_all<R: Read, W: Write>(
+    words: &mut R,
+    told: &mut W,
+    sheet: &[u8],
+    starts: &[Start],
+) -> io::Result<()>
     requires { Indexed sheet.now starts.now }
+    ensures { OnOk result (IfSome (R.remaining words.old) (λ input.
+        Appends (W.contents told.old) (W.contents told.new) (lines_of sheet.now [] input ++ last_line sheet.now (unended [] input)))) }
 {
     let mut word = [0u8; 193];
-    let mut text = io::buffer();
-    let mut out = io::large_buffer();
+    let mut text = [0u8; 4096];
+    let mut out = [0u8; 65536];
     let mut kept: usize = 0;
-    let mut turns = u64::MAX;
-    while turns > 0 {
-        turns -= 1;
-        let n = io::read_full(STDIN_FILENO, &mut text);
-        if n == 0 {
-            break;
+    for _ in 0..u64::MAX {
+        match words.read(&mut text) {
+            Ok(0) => {
+                let size = print_last(&word[..kept], sheet, starts, &mut out);
+                return told.write_all(&out[..size]);
+            }
+            Ok(n) => {
+                let done = print_stretch(&mut word, kept, &text[..n], sheet, starts, &mut out);
+                kept = done.kept;
+                told.write_all(&out[..done.size])?;
+            }
+            Err(error) if error.kind() == ErrorKind::Interrupted => {}
+            Err(error) => return Err(error),
         }
-        let done = print_stretch(&mut word, kept, &text[..n], sheet, starts, &mut out);
-        kept = done.kept;
-        io::write_all(STDOUT_FILENO, &out[..done.size]);
     }
-    let size = print_last(&word[..kept], sheet, starts, &mut out);
-    io::write_all(STDOUT_FILENO, &out[..size]);
+    Err(io::Error::from(ErrorKind::TimedOut))
 }
 
 // Checks the sheet, and goes on to the words where it is accepted.
-fn answer(sheet: &[u8]) {
+fn answer<R: Read, W: Write>(words: &mut R, told: &mut W, sheet: &[u8]) -> io::Result<()>
+    ensures { OnOk result (IfSome (R.remaining words.old) (λ input. Appends (W.contents told.old) (W.contents told.new) (printed sheet.now input))) }
+{
     let mut starts: [Start; ALL_STARTS] = [0; ALL_STARTS];
     let ready = prepare_sheet(sheet, &mut starts);
     let lines = ready.lines;
     let inputs = ready.inputs;
     match inputs {
-        Inputs::Refused(refusal) => say_refused(refusal),
-        Inputs::Accepted => answer_all(sheet, &starts[..lines]),
+        Inputs::Refused(refusal) => say_refused(told, refusal),
+        Inputs::Accepted => answer_all(words, told, sheet, &starts[..lines]),
     }
 }
 
-// Reads the sheet from an open file, and answers whether it could be read to its end, or one byte past the limit.
-fn answer_file(fd: i32) -> bool {
-    let mut sheet = [0u8; 65537];
-    let n = io::read_full(fd, &mut sheet);
-    let mut more = [0u8; 1];
-    if libc::read(fd, &mut more) < 0 {
-        return false;
-    }
-    answer(&sheet[..n]);
-    true
+// The sheet of a path, to its end, or one byte past the limit.
+fn read_sheet<R: Files + AllocGlobal>(rt: &R, path: &str) -> io::Result<Vec<u8>> {
+    let mut sheet = Vec::new(rt.alloc());
+    fs::open(rt, path)?.take(65537).read_to_end(&mut sheet)?;
+    Ok(sheet)
 }
 
-fn main() {
-    if os::arg_count() != 2 {
-        io::write_all(
-            STDERR_FILENO,
+fn main(rt: HostRuntime) -> io::Result<()> {
+    let mut given = env::args(&rt)?.skip(1);
+    let (Some(path), None) = (given.next(), given.next()) else {
+        return rt.stderr().write_all(
             b"usage: visits SHEET, with words on standard input, one a line\n",
         );
-        return;
+    };
+    match read_sheet(&rt, path.as_str()) {
+        Ok(sheet) => answer(&mut rt.stdin(), &mut rt.stdout(), &sheet),
+        Err(error) => eprintln!(rt; "{path}: {error}"),
     }
-    let mut path = io::buffer();
-    let n = os::arg(1, &mut path);
-    let fd = os::open_read(&path[..n]);
-    if fd < 0 {
-        os::fail(&path[..n]);
-        return;
-    }
-    if !answer_file(fd) {
-        os::fail(&path[..n]);
-        return;
-    }
-    libc::close(fd);
 }

@@ -4,11 +4,12 @@
 #![tactic(auto)]
 
 use blocks::case_at;
-use libc::{STDIN_FILENO, STDOUT_FILENO};
 use listing::whole::readings_of;
+use std::io;
+use std::io::{Read, Write};
 
-fn replay(s: &[u8]) {
-    let mut out = io::large_buffer();
+fn replay<W: Write>(printed: &mut W, s: &[u8]) -> io::Result<()> {
+    let mut out = [0u8; 65536];
     let mut at = 0;
     while at < s.len() {
         let case = case_at(s, at);
@@ -16,13 +17,14 @@ fn replay(s: &[u8]) {
         let sheet = case.sheet;
         let end = case.end;
         let n = readings_of(&s[word..sheet], &s[sheet..end], &mut out);
-        io::write_all(STDOUT_FILENO, &out[..n]);
+        printed.write_all(&out[..n])?;
         at = case.next;
     }
+    Ok(())
 }
 
-fn main() {
-    let mut buffer = [0u8; 262144];
-    let n = io::read_full(STDIN_FILENO, &mut buffer);
-    replay(&buffer[..n]);
+fn main(rt: HostRuntime) -> io::Result<()> {
+    let mut cases = Vec::new(rt.alloc());
+    rt.stdin().read_to_end(&mut cases)?;
+    replay(&mut rt.stdout(), &cases)
 }
