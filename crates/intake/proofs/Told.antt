@@ -1,7 +1,7 @@
 -- What a program has told of all that a reader had left, where it has told of the front that it read. Assumes nothing.
 use Rattle.std.proofs.Common.{◌≡◌, ℕ, List, [], ◌++◌, length, take, OnOk, IfSome, Ok, Err, Some, None}
 use Rattle.std.proofs.Math.Seq.{take-append_seam}
-use mathlib.Core.Path.{refl, sym, ap, ◌∙◌}
+use mathlib.Core.Path.{sym, ap, ◌∙◌}
 use mathlib.Core.List.{append_assoc, append-nil}
 use Rattle.std.specs.Io.KnownBytes.{Appends}
 use Rattle.std.specs.declared.result.Result.{Result}
