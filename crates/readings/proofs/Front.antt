@@ -1,5 +1,5 @@
 -- What is printed for an input is printed for its front up to one byte past the limit: a longer one is refused. Assumes nothing.
-use Rattle.std.proofs.Common.{◌≡◌, ℕ, ◌<◌, ◌≤◌, Bool, true, false, List, length, take}
+use Rattle.std.proofs.Common.{◌≡◌, ℕ, Bool, true, false, List, length, take}
 use Rattle.std.proofs.lemmas.List.{take_all, length-take-le}
 use native.Mathlib.Omega.{arith}
 use mathlib.Core.Path.{sym, ap, refl, ◌∙◌}
