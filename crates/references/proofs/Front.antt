@@ -1,8 +1,8 @@
 -- What is printed of a sheet is printed of its front up to one byte past the limit: a longer one is refused. Assumes nothing.
-use Rattle.std.proofs.Common.{◌≡◌, ℕ, ◌<◌, ◌≤◌, Bool, true, false, List, [], length, take}
+use Rattle.std.proofs.Common.{◌≡◌, ℕ, ◌<◌, Bool, true, false, List, [], length, take}
 use Rattle.std.proofs.lemmas.List.{take_all, length-take-le}
 use native.Mathlib.Omega.{arith}
-use mathlib.Core.Path.{sym, ap, ap₂, refl, ◌∙◌}
+use mathlib.Core.Path.{sym, ap, refl, ◌∙◌}
 use lib.Dec.{ltb}
 use borrow.Author.Tests.{lt-ltb, ltb-true, ltb-false}
 use Rattle.sheet.specs.Limits.{sheet_limit}

@@ -1,5 +1,4 @@
 -- `references::answer` meets its contract: what it reads is the sheet's front, what it writes is what is printed of it. Assumes nothing.
-use Rattle.std.proofs.Common.{◌≡◌}
 use mathlib.Core.Path.{ap, ◌∙◌}
 use Rattle.intake.proofs.Told.{told_of, whole_front}
 use Rattle.referred.specs.Answers.{printed}
