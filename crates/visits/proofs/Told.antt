@@ -1,4 +1,4 @@
--- The input read so far, what was told of it, and what its end tells. Assumes nothing.
+-- The input read so far, what was told of it, and what that is of all of it. Assumes nothing.
 use Rattle.std.proofs.Common.{◌≡◌, ℕ, ◌<◌, ◌≤◌, List, [], ◌∷◌, ◌++◌, length, take, OnOk, IfSome, Ok, Err, Some, None}
 use native.Mathlib.Omega.{arith}
 use mathlib.Core.Path.{refl, sym, ap, subst, ◌∙◌}
@@ -43,19 +43,27 @@ read_kept (Some xs) None new a p q = absurd p
 read_kept (Some xs) (Some ys) None a p q = absurd q
 read_kept (Some xs) (Some ys) (Some zs) a p q = p ∙ ap (λ (l : List ℕ). a ++ l) (sym q)
 
--- all was read
-pub read_all : (old between new : Option (List ℕ)) (a : List ℕ) → Consumes old between a → Consumes between new [] → IsAtEnd new → IfSome old (λ xs. a ≡ xs)
-read_all None between new a p q e = tt
-read_all (Some xs) None new a p q e = absurd p
-read_all (Some xs) (Some ys) None a p q e = absurd q
-read_all (Some xs) (Some ys) (Some zs) a p q e = sym (p ∙ ap (λ (l : List ℕ). a ++ l) (q ∙ e) ∙ append-nil a)
+-- where nothing is left, all was read
+pub read_all : (old new : Option (List ℕ)) (a : List ℕ) → Consumes old new a → IsAtEnd new → IfSome old (λ xs. a ≡ xs)
+read_all None new a p e = tt
+read_all (Some xs) None a p e = absurd p
+read_all (Some xs) (Some ys) a p e = sym (p ∙ ap (λ (l : List ℕ). a ++ l) e ∙ append-nil a)
 
--- what is told of what was read is told of the input
-pub told_all : {T E : Type 0} (r : Result T E) (old new left : Option (List ℕ)) (read : List ℕ) (text : List ℕ → List ℕ)
-    → OnOk r (Appends old new (text read)) → IfSome left (λ xs. read ≡ xs) → OnOk r (IfSome left (λ xs. Appends old new (text xs)))
-told_all (Ok x) old new None read text a e = tt
-told_all (Ok x) old new (Some xs) read text a e = subst (λ (l : List ℕ). Appends old new (text l)) e a
-told_all (Err x) old new left read text a e = tt
+-- what was told is the text of what was read
+pub told_read : {T E : Type 0} (r : Result T E) (left rest old new : Option (List ℕ)) (read : List ℕ) (text : List ℕ → List ℕ)
+    → Consumes left rest read → OnOk r (Appends old new (text read)) → OnOk r ((l : List ℕ) × Consumes left rest l × Appends old new (text l))
+told_read (Ok x) left rest old new read text c a = (read, c, a)
+told_read (Err x) left rest old new read text c a = tt
+
+-- where nothing is left, it is the text of all
+told_whole : (left old new : Option (List ℕ)) (read : List ℕ) (text : List ℕ → List ℕ) → Appends old new (text read) → IfSome left (λ xs. read ≡ xs) → IfSome left (λ xs. Appends old new (text xs))
+told_whole None old new read text a e = tt
+told_whole (Some xs) old new read text a e = subst (λ (l : List ℕ). Appends old new (text l)) e a
+
+pub told_all : {T E : Type 0} (r : Result T E) (left rest old new : Option (List ℕ)) (text : List ℕ → List ℕ)
+    → OnOk r ((l : List ℕ) × Consumes left rest l × Appends old new (text l)) → OnOk r (IsAtEnd rest → IfSome left (λ xs. Appends old new (text xs)))
+told_all (Ok x) left rest old new text p = λ e. told_whole left old new p.0 text p.2 (read_all left rest p.0 p.1 e)
+told_all (Err x) left rest old new text p = tt
 
 -- a read by how it ended
 pub read_ok : {E : Type 0} (old new : Option (List ℕ)) (r : Result ℕ E) (buf : List ℕ) (n : ℕ) → ReadConsumes old new r buf → r ≡ Ok n
@@ -69,8 +77,11 @@ none_taken : (l : List ℕ) → take 0 l ≡ []
 none_taken [] = refl
 none_taken (x ∷ l) = refl
 
-pub read_end : (old new : Option (List ℕ)) (buf : List ℕ) (n : ℕ) → Consumes old new (take n buf) → n ≡ 0 → Consumes old new []
-read_end old new buf n h z = subst (λ (l : List ℕ). Consumes old new l) (ap (λ (m : ℕ). take m buf) z ∙ none_taken buf) h
+-- a read of no byte leaves what there was
+pub read_end : (old new : Option (List ℕ)) (buf : List ℕ) (n : ℕ) → Consumes old new (take n buf) → n ≡ 0 → Keeps old new
+read_end None new buf n h z = tt
+read_end (Some xs) None buf n h z = absurd h
+read_end (Some xs) (Some ys) buf n h z = sym (h ∙ ap (λ (m : ℕ). take m buf ++ ys) z ∙ ap (λ (l : List ℕ). l ++ ys) (none_taken buf))
 
 -- a text told after another, by how the last call ended
 pub told_after : {T E : Type 0} (r : Result T E) (old between new : Option (List ℕ)) (a b : List ℕ)
@@ -99,17 +110,16 @@ lines_told : (sheet input : List ℕ) → by_sheet (sheet_check sheet) ≡ input
 unfolding printed
 lines_told sheet input e = sym (ap (λ (i : Inputs). said_or i (lines_of sheet [] input ++ last_line sheet (unended [] input))) e)
 
-pub refusal_all : {T E : Type 0} (r : Result T E) (old new left : Option (List ℕ)) (sheet : List ℕ) (refusal : Refusal) → by_sheet (sheet_check sheet) ≡ inputs.Refused refusal
-    → OnOk r (Appends old new (refused_text (numbers_of refusal))) → OnOk r (IfSome left (λ xs. Appends old new (printed sheet xs)))
-refusal_all (Ok x) old new None sheet refusal e a = tt
-refusal_all (Ok x) old new (Some xs) sheet refusal e a = rw (sym (refusal_told sheet xs refusal e)) a
-refusal_all (Err x) old new left sheet refusal e a = tt
+pub refusal_read : {T E : Type 0} (r : Result T E) (left old new : Option (List ℕ)) (sheet : List ℕ) (refusal : Refusal) → by_sheet (sheet_check sheet) ≡ inputs.Refused refusal
+    → OnOk r (Appends old new (refused_text (numbers_of refusal))) → OnOk r ((l : List ℕ) × Consumes left left l × Appends old new (printed sheet l))
+refusal_read (Ok x) left old new sheet refusal e a = ([], read_none left, rw (sym (refusal_told sheet [] refusal e)) a)
+refusal_read (Err x) left old new sheet refusal e a = tt
 
-pub accepted_all : {T E : Type 0} (r : Result T E) (old new left : Option (List ℕ)) (sheet : List ℕ) → by_sheet (sheet_check sheet) ≡ inputs.Accepted
-    → OnOk r (IfSome left (λ xs. Appends old new (lines_of sheet [] xs ++ last_line sheet (unended [] xs)))) → OnOk r (IfSome left (λ xs. Appends old new (printed sheet xs)))
-accepted_all (Ok x) old new None sheet e a = tt
-accepted_all (Ok x) old new (Some xs) sheet e a = rw (sym (lines_told sheet xs e)) a
-accepted_all (Err x) old new left sheet e a = tt
+pub accepted_read : {T E : Type 0} (r : Result T E) (left rest old new : Option (List ℕ)) (sheet : List ℕ) → by_sheet (sheet_check sheet) ≡ inputs.Accepted
+    → OnOk r ((l : List ℕ) × Consumes left rest l × Appends old new (lines_of sheet [] l ++ last_line sheet (unended [] l)))
+    → OnOk r ((l : List ℕ) × Consumes left rest l × Appends old new (printed sheet l))
+accepted_read (Ok x) left rest old new sheet e p = (p.0, p.1, rw (sym (lines_told sheet p.0 e)) p.2)
+accepted_read (Err x) left rest old new sheet e p = tt
 
 -- how long the line of a refusal is
 number_line : (n : ℕ) → n < 100 → length (refused_text (n ∷ [])) ≤ 64

@@ -4,8 +4,8 @@
 // that can't be read is told on standard error, and then nothing is printed.
 #![tactic(auto)]
 
-ghost use Rattle.std.specs.Prelude.{[], ◌++◌, IfSome, OnOk};
-ghost use Rattle.std.specs.Io.KnownBytes.{Appends};
+ghost use Rattle.std.specs.Prelude.{ℕ, List, [], ◌++◌, IfSome, OnOk};
+ghost use Rattle.std.specs.Io.KnownBytes.{Appends, Consumes, IsAtEnd};
 ghost use Rattle.refusals.specs.Refusals.{numbers_of};
 ghost use Rattle.sheet.specs.Inputs.{Placed};
 ghost use Rattle.sheet.specs.Replies.{Indexed};
@@ -38,7 +38,7 @@ fn say_refused<W: Write>(told: &mut W, refusal: Refusal) -> io::Result<()>
 }
 
 // Prints the lines of all words that a reader has left. A proved loop has to end, and nothing says that an input does: so its turns are
-// counted, up to a number that no run uses up.
+// counted, up to a number that no run uses up. Where they end, the words are those that were read, and the last one's line is printed too.
 fn answer_all<R: Read, W: Write>(
     words: &mut R,
     told: &mut W,
@@ -46,7 +46,9 @@ fn answer_all<R: Read, W: Write>(
     starts: &[Start],
 ) -> io::Result<()>
     requires { Indexed sheet.now starts.now }
-    ensures { OnOk result (IfSome (R.remaining words.old) (λ input.
+    ensures read { OnOk result ((read : List ℕ) × Consumes (R.remaining words.old) (R.remaining words.new) read
+        × Appends (W.contents told.old) (W.contents told.new) (lines_of sheet.now [] read ++ last_line sheet.now (unended [] read))) }
+    ensures all { OnOk result (IsAtEnd (R.remaining words.new) → IfSome (R.remaining words.old) (λ input.
         Appends (W.contents told.old) (W.contents told.new) (lines_of sheet.now [] input ++ last_line sheet.now (unended [] input)))) }
 {
     let mut word = [0u8; 193];
@@ -55,10 +57,7 @@ fn answer_all<R: Read, W: Write>(
     let mut kept: usize = 0;
     for _ in 0..u64::MAX {
         match words.read(&mut text) {
-            Ok(0) => {
-                let size = print_last(&word[..kept], sheet, starts, &mut out);
-                return told.write_all(&out[..size]);
-            }
+            Ok(0) => break,
             Ok(n) => {
                 let done = print_stretch(&mut word, kept, &text[..n], sheet, starts, &mut out);
                 kept = done.kept;
@@ -68,12 +67,16 @@ fn answer_all<R: Read, W: Write>(
             Err(error) => return Err(error),
         }
     }
-    Err(io::Error::from(ErrorKind::TimedOut))
+    let size = print_last(&word[..kept], sheet, starts, &mut out);
+    told.write_all(&out[..size])
 }
 
 // Checks the sheet, and goes on to the words where it is accepted.
 fn answer<R: Read, W: Write>(words: &mut R, told: &mut W, sheet: &[u8]) -> io::Result<()>
-    ensures { OnOk result (IfSome (R.remaining words.old) (λ input. Appends (W.contents told.old) (W.contents told.new) (printed sheet.now input))) }
+    ensures read { OnOk result ((read : List ℕ) × Consumes (R.remaining words.old) (R.remaining words.new) read
+        × Appends (W.contents told.old) (W.contents told.new) (printed sheet.now read)) }
+    ensures all { OnOk result (IsAtEnd (R.remaining words.new) → IfSome (R.remaining words.old) (λ input.
+        Appends (W.contents told.old) (W.contents told.new) (printed sheet.now input))) }
 {
     let mut starts: [Start; ALL_STARTS] = [0; ALL_STARTS];
     let ready = prepare_sheet(sheet, &mut starts);

@@ -1,12 +1,13 @@
--- `visits::answer_all` tells the lines of all words: stretch by stretch, and at the end that of the last word. Assumes nothing.
+-- `visits::answer_all` tells the lines of the words that were read: stretch by stretch, and behind the loop that of the last word. Assumes nothing.
 use Rattle.std.proofs.Common.{rules, ◌≡◌, ℕ, List, [], ◌++◌, length, take}
 use native.Mathlib.Omega.{arith}
 use mathlib.Core.Path.{refl, sym}
+use Rattle.std.specs.Io.KnownBytes.{Consumes}
 use Rattle.intake.proofs.Told.{told_none, told_both, whole_front}
 use Rattle.visits.specs.Printed.{lines_of, unended, last_line}
-use Rattle.visits.proofs.Told.{read_none, read_both, read_kept, read_all, read_ok, read_err, read_end, told_all, told_after, stretch_lines, stretch_kept, last_told}
+use Rattle.visits.proofs.Told.{read_none, read_both, read_kept, read_ok, read_err, read_end, told_read, told_all, told_after, stretch_lines, stretch_kept, last_told}
 use Rattle.visits.proofs.answer_all.Goals as goal
-use Rattle.visits.proofs.answer_all.Goals.{in-Ok+in_ok-write_all-in-Ok, in-Err}
+use Rattle.visits.proofs.answer_all.Goals.{in-Ok+in_ok-write_all-in-Ok, in-Err, else-loop-test, then-loop-test+in-Ok-eq0}
 
 pub loop-init : goal.loop-init
 unfolding lines_of unended
@@ -34,15 +35,23 @@ loop-preserved g c =
           (i.0, i.1, whole, i.3, (r, read_kept _ _ _ _ i.4.1 k, i.4.2, i.4.3)))))
     ]
 
-pub returns-in-Ok-eq0 : goal.returns-in-Ok-eq0
-returns-in-Ok-eq0 g c =
+pub returns-clause-read : goal.returns-clause-read
+returns-clause-read g c =
     let i = c.loop.invariant in
     let r = i.4.0 in
     let sheet = c.args.sheet.now in
     let front = take c.loop.kept c.loop.word in
-    let whole : length c.read.new.buf ≡ 4096 = search rules in
-    let b = read_ok _ _ c.read.result c.read.new.buf c.in-Ok-eq0.field-0 c.read.ensures.bytes c.in-Ok-eq0.is in
-    let z = c.in-Ok-eq0.field-0-test in
-    let all = read_all _ _ _ r i.4.1 (read_end _ _ c.read.new.buf c.in-Ok-eq0.field-0 b.0 z) (b.1 z (omega arith)) in
-    told_all c.write_all.result _ _ _ r (λ (l : List ℕ). lines_of sheet [] l ++ last_line sheet (unended [] l))
-    (rw (sym (last_told sheet r front [] i.4.3 _ (whole_front c.print_last-size.ensures))) (told_after c.write_all.result _ _ _ _ _ i.4.2 c.write_all.ensures.bytes)) all
+    let consumed : Consumes (g.R.Read.remaining c.args.words.now) (g.R.Read.remaining c.loop-test.words) r =
+    elim c.loop-test.branch [
+      | else-loop-test w ↦ rw w.words-is i.4.1
+      | then-loop-test+in-Ok-eq0 w ↦
+          let b = read_ok _ _ w.read.result w.read.new.buf w.in-Ok-eq0.field-0 w.read.ensures.bytes w.in-Ok-eq0.is in
+          rw w.words-is (read_kept _ _ _ r i.4.1 (read_end _ _ w.read.new.buf w.in-Ok-eq0.field-0 b.0 w.in-Ok-eq0.field-0-test))
+    ] in
+    told_read c.write_all-2.result _ _ _ _ r (λ (l : List ℕ). lines_of sheet [] l ++ last_line sheet (unended [] l)) consumed
+    (rw (sym (last_told sheet r front [] i.4.3 _ (whole_front {text = last_line sheet front} c.print_last-size.ensures))) (told_after c.write_all-2.result _ _ _ _ _ i.4.2 c.write_all-2.ensures.bytes))
+
+pub returns-clause-all : goal.returns-clause-all
+returns-clause-all g c =
+    let sheet = c.args.sheet.now in
+    told_all c.write_all-2.result _ _ _ _ (λ (l : List ℕ). lines_of sheet [] l ++ last_line sheet (unended [] l)) (returns-clause-read g c)
