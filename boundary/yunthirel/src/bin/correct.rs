@@ -7,8 +7,8 @@
 //! the file is as it was. The status is 0 for a sheet that was replaced, 1 for a refusal, 2 where a path can't be read or written, which is
 //! told by its name on standard error.
 //!
-//! The edit is the proved library's. It is a program of this crate, and none in Rattle, since a program there has one status for whatever
-//! went wrong, and a script at a desk has to tell a refusal from a wrong path.
+//! The edit is the proved library's. It is a program of this crate, since one in Rattle handed back no status when it was written, and a
+//! script at a desk has to see that nothing was written.
 #![forbid(unsafe_code)]
 
 use std::ffi::OsString;
