@@ -45,6 +45,9 @@ fn put_word(out: &mut [u8], at: usize, word: &[u8], sheet: &[u8], starts: &[Star
     }
 }
 
+// The most bytes that are kept of a word that is not ended.
+const KEPT: usize = 193;
+
 // Puts the lines of the words that end in the stretch, of which the first begins with the `kept` bytes of `word`. Of what no 0A ends,
 // `word` keeps 193 bytes at most, which is one more than any word has.
 fn put_lines(
@@ -70,7 +73,7 @@ fn put_lines(
             n = 0;
             continue;
         }
-        if n < 193 {
+        if n < KEPT {
             word[n] = b;
             n += 1;
         }

@@ -51,18 +51,18 @@ bounds-word-n c = omega arith
 pub overflow_add-n : goal.overflow_add-n
 overflow_add-n c = omega arith
 
-pub loop-i-smaller-then-n-lt193 : goal.loop-i-smaller-then-n-lt193
-loop-i-smaller-then-n-lt193 c = omega arith
+pub loop-i-smaller-then-n-lt-KEPT : goal.loop-i-smaller-then-n-lt-KEPT
+loop-i-smaller-then-n-lt-KEPT c = omega arith
 
-pub loop-i-preserved-then-n-lt193 : goal.loop-i-preserved-then-n-lt193
-loop-i-preserved-then-n-lt193 c =
+pub loop-i-preserved-then-n-lt-KEPT : goal.loop-i-preserved-then-n-lt-KEPT
+loop-i-preserved-then-n-lt-KEPT c =
     let e = c in
     let m = e in
     let k = m in
     let a = k.args in
-    let more = sym (kept_more k.loop-i.word k.loop-i.n (get_or a.text.now k.loop-i.i 0) (omega (arith, c.if-n-lt193.true, k.loop-i.invariant.2))) in (
+    let more = sym (kept_more k.loop-i.word k.loop-i.n (get_or a.text.now k.loop-i.i 0) (omega (arith, c.if-n-lt-KEPT.true, k.loop-i.invariant.2))) in (
       omega (arith, m.loop-i-test.true),
-      omega (arith, c.if-n-lt193.true),
+      omega (arith, c.if-n-lt-KEPT.true),
       simp length-set k.loop-i.invariant.2,
       upto_as (line_longer a.sheet.now a.text.now k.loop-i.i m.loop-i-test.true (take k.loop-i.n k.loop-i.word) e.if-b-eq10.false ∙ ap (λ (l : List ℕ). lines_of a.sheet.now l (drop (k.loop-i.i + 1) a.text.now)) more) k.loop-i.invariant.3,
       k.loop-i.invariant.4 ∙ ap (take 193) (word_longer a.sheet.now a.text.now k.loop-i.i m.loop-i-test.true (take k.loop-i.n k.loop-i.word) e.if-b-eq10.false ∙ ap (λ (l : List ℕ). unended l (drop (k.loop-i.i + 1) a.text.now)) more),
@@ -81,8 +81,8 @@ loop-i-preserved c =
       omega (arith, m.loop-i-test.true),
       k.loop-i.invariant.1,
       k.loop-i.invariant.2,
-      upto_as (line_full a.sheet.now a.text.now k.loop-i.i m.loop-i-test.true (take k.loop-i.n k.loop-i.word) (omega (arith, n, c.if-n-lt193.false)) e.if-b-eq10.false) k.loop-i.invariant.3,
-      k.loop-i.invariant.4 ∙ word_full a.sheet.now a.text.now k.loop-i.i m.loop-i-test.true (take k.loop-i.n k.loop-i.word) (omega (arith, n, c.if-n-lt193.false)) e.if-b-eq10.false,
+      upto_as (line_full a.sheet.now a.text.now k.loop-i.i m.loop-i-test.true (take k.loop-i.n k.loop-i.word) (omega (arith, n, c.if-n-lt-KEPT.false)) e.if-b-eq10.false) k.loop-i.invariant.3,
+      k.loop-i.invariant.4 ∙ word_full a.sheet.now a.text.now k.loop-i.i m.loop-i-test.true (take k.loop-i.n k.loop-i.word) (omega (arith, n, c.if-n-lt-KEPT.false)) e.if-b-eq10.false,
     )
 
 pub shape_of-word : goal.shape_of-word
