@@ -18,10 +18,8 @@ returns-then-not-form c = simp (not-true c.args.form.found c.if-not-form.true)
 
 pub returns-then-form : goal.returns-then-form
 returns-then-form c =
-    let d = c in
-    form-value d.args.form true 3 (not-false d.args.form.found d.if-not-form.false) c.if-form.true refl
+    form-value c.args.form true 3 (not-false c.args.form.found c.if-not-form.false) c.if-form.true refl
 
 pub returns : goal.returns
 returns c =
-    let d = c in
-    form-value d.args.form false 1 (not-false d.args.form.found d.if-not-form.false) c.if-form.false refl
+    form-value c.args.form false 1 (not-false c.args.form.found c.if-not-form.false) c.if-form.false refl

@@ -12,8 +12,7 @@ use Rattle.exports.proofs.refusal_code.Goals.{In-Placed}
 -- number and place
 small : (c : In-Placed) → (c.in-Placed.n < 256) × (c.in-Placed.at < sheet_limit)
 small c =
-    let n = c in
-    number-placed n.args.refusal _ _ (sym (ap numbers_told c.in-Placed.is) ∙ n.numbers_of-numbers.ensures) n.requires
+    number-placed c.args.refusal _ _ (sym (ap numbers_told c.in-Placed.is) ∙ c.numbers_of-numbers.ensures) c.requires
 
 pub overflow_mul-result : goal.overflow_mul-result
 overflow_mul-result c = omega (arith, small (goal.at.overflow_mul-result c).In-Placed)

@@ -6,9 +6,8 @@ use Rattle.exports.proofs.yunthirel_has_known_root.Goals as goal
 
 pub refusal_code-requires : goal.refusal_code-requires
 refusal_code-requires c =
-    let d = c in
-    let a = d.args in
-    known_refused a.word.now a.sheet.now _ _ d.has_known_root-answer.ensures c.in-Refused.is
+    let a = c.args in
+    known_refused a.word.now a.sheet.now _ _ c.has_known_root-answer.ensures c.in-Refused.is
 
 pub returns-in-Refused : goal.returns-in-Refused
 returns-in-Refused c = c.refusal_code.ensures ∙ ap known_code (sym c.in-Refused.is ∙ c.has_known_root-answer.ensures)

@@ -6,9 +6,8 @@ use Rattle.exports.proofs.yunthirel_listing.Goals as goal
 
 pub written_code-requires : goal.written_code-requires
 written_code-requires c =
-    let w = c in
-    let a = w.args in
-    outcome_small a.word.now a.sheet.now a.out.now _ w.write_readings.ensures.0 w.write_readings.ensures.2
+    let a = c.args in
+    outcome_small a.word.now a.sheet.now a.out.now _ c.write_readings.ensures.0 c.write_readings.ensures.2
 
 pub returns : goal.returns
-returns c = let w = c in (c.written_code.ensures ∙ ap written_code w.write_readings.ensures.0, w.write_readings.ensures.1)
+returns c = (c.written_code.ensures ∙ ap written_code c.write_readings.ensures.0, c.write_readings.ensures.1)

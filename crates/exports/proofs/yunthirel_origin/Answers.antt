@@ -6,9 +6,8 @@ use Rattle.exports.proofs.yunthirel_origin.Goals as goal
 
 pub refusal_code-requires : goal.refusal_code-requires
 refusal_code-requires c =
-    let d = c in
-    let a = d.args in
-    decision-refused a.word.now a.sheet.now _ _ d.classify_with_provenance-answer.ensures c.in-Refused.is
+    let a = c.args in
+    decision-refused a.word.now a.sheet.now _ _ c.classify_with_provenance-answer.ensures c.in-Refused.is
 
 pub returns-in-Decided : goal.returns-in-Decided
 returns-in-Decided c =

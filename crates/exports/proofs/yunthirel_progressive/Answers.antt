@@ -6,15 +6,13 @@ use Rattle.exports.proofs.yunthirel_progressive.Goals as goal
 
 pub refusal_code-requires : goal.refusal_code-requires
 refusal_code-requires c =
-    let d = c in
-    let a = d.args in
-    analyzed_small a.word.now a.sheet.now _ _ d.analyze_progressive-answer.ensures c.in-Refused.is
+    let a = c.args in
+    analyzed_small a.word.now a.sheet.now _ _ c.analyze_progressive-answer.ensures c.in-Refused.is
 
 pub form_code-requires : goal.form_code-requires
 form_code-requires c =
-    let d = c in
-    let a = d.args in
-    form_small a.word.now a.sheet.now _ _ d.analyze_progressive-answer.ensures c.in-Given.is
+    let a = c.args in
+    form_small a.word.now a.sheet.now _ _ c.analyze_progressive-answer.ensures c.in-Given.is
 
 pub returns-in-Refused : goal.returns-in-Refused
 returns-in-Refused c =

@@ -8,14 +8,12 @@ pub slice_bounds-put_listing-end : goal.slice_bounds-put_listing-end
 slice_bounds-put_listing-end c = refl
 
 pub returns-then-out-size : goal.returns-then-out-size
-returns-then-out-size c = let p = c in let w = written-not p.put_listing-size.ensures.0 c.if-out-size.true in (w, p.put_listing-size.ensures.1)
+returns-then-out-size c = let w = written-not c.put_listing-size.ensures.0 c.if-out-size.true in (w, c.put_listing-size.ensures.1)
 
 pub shape_of-out : goal.shape_of-out
 shape_of-out c = c.put_listing.ensures.0.size
 
 pub returns : goal.returns
 returns c =
-    let e = c in
-    let p = e in
-    let w = written-whole p.put_listing-size.ensures.0 e.if-out-size.false (omega arith) c.put_listing.ensures.0 in
-    (w, p.put_listing-size.ensures.1)
+    let w = written-whole c.put_listing-size.ensures.0 c.if-out-size.false (omega arith) c.put_listing.ensures.0 in
+    (w, c.put_listing-size.ensures.1)

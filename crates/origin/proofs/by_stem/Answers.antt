@@ -7,20 +7,17 @@ use Rattle.origin.proofs.by_stem.Goals as goal
 
 pub returns-in-Tagged : goal.returns-in-Tagged
 returns-in-Tagged c =
-    let d = c in
-    ap (λ (k : Known). or_by_kosha by_stem k (by_marks (heuristic_of d.args.word.now)))
-    (sym c.in-Tagged.is ∙ d.known_stem-stem.ensures)
+    ap (λ (k : Known). or_by_kosha by_stem k (by_marks (heuristic_of c.args.word.now)))
+    (sym c.in-Tagged.is ∙ c.known_stem-stem.ensures)
 
 pub returns-in-Headword : goal.returns-in-Headword
 returns-in-Headword c =
-    let d = c in
     c.no_evidence.ensures
-    ∙ ap (λ (k : Known). or_by_kosha by_stem k (by_marks (heuristic_of d.args.word.now)))
-    (sym c.in-Headword.is ∙ d.known_stem-stem.ensures)
+    ∙ ap (λ (k : Known). or_by_kosha by_stem k (by_marks (heuristic_of c.args.word.now)))
+    (sym c.in-Headword.is ∙ c.known_stem-stem.ensures)
 
 pub returns-in-NotKnown : goal.returns-in-NotKnown
 returns-in-NotKnown c =
-    let d = c in
     c.by_marks.ensures
-    ∙ ap (λ (k : Known). or_by_kosha by_stem k (by_marks (heuristic_of d.args.word.now)))
-    (sym c.in-NotKnown.is ∙ d.known_stem-stem.ensures)
+    ∙ ap (λ (k : Known). or_by_kosha by_stem k (by_marks (heuristic_of c.args.word.now)))
+    (sym c.in-NotKnown.is ∙ c.known_stem-stem.ensures)

@@ -11,32 +11,25 @@ returns-then-word-eq0 c =
 
 pub returns-in-Listed : goal.returns-in-Listed
 returns-in-Listed c =
-    let l = c in
-    let a = l.args in
-    by_table (reply a.sheet.now) a.word.now _ l.if-word-eq0.false (sym c.in-Listed.is ∙ l.listed-row.ensures)
+    let a = c.args in
+    by_table (reply a.sheet.now) a.word.now _ c.if-word-eq0.false (sym c.in-Listed.is ∙ c.listed-row.ensures)
 
 pub returns-in-Tagged : goal.returns-in-Tagged
 returns-in-Tagged c =
-    let k = c in
-    let l = k in
-    let a = l.args in
-    by_own (reply a.sheet.now) a.word.now _ l.if-word-eq0.false (sym k.in_default.is ∙ l.listed-row.ensures)
-    (sym c.in-Tagged.is ∙ k.known_by-own.ensures)
+    let a = c.args in
+    by_own (reply a.sheet.now) a.word.now _ c.if-word-eq0.false (sym c.in_default.is ∙ c.listed-row.ensures)
+    (sym c.in-Tagged.is ∙ c.known_by-own.ensures)
 
 pub returns-in-Headword : goal.returns-in-Headword
 returns-in-Headword c =
-    let k = c in
-    let l = k in
-    let a = l.args in
+    let a = c.args in
     c.no_evidence-in-Headword.ensures
-    ∙ by_own (reply a.sheet.now) a.word.now _ l.if-word-eq0.false (sym k.in_default.is ∙ l.listed-row.ensures)
-    (sym c.in-Headword.is ∙ k.known_by-own.ensures)
+    ∙ by_own (reply a.sheet.now) a.word.now _ c.if-word-eq0.false (sym c.in_default.is ∙ c.listed-row.ensures)
+    (sym c.in-Headword.is ∙ c.known_by-own.ensures)
 
 pub returns-in-NotKnown : goal.returns-in-NotKnown
 returns-in-NotKnown c =
-    let k = c in
-    let l = k in
-    let a = l.args in
+    let a = c.args in
     c.by_stem.ensures
-    ∙ by_own (reply a.sheet.now) a.word.now _ l.if-word-eq0.false (sym k.in_default.is ∙ l.listed-row.ensures)
-    (sym c.in-NotKnown.is ∙ k.known_by-own.ensures)
+    ∙ by_own (reply a.sheet.now) a.word.now _ c.if-word-eq0.false (sym c.in_default.is ∙ c.listed-row.ensures)
+    (sym c.in-NotKnown.is ∙ c.known_by-own.ensures)

@@ -9,8 +9,7 @@ use Rattle.ranking.proofs.root_less.Goals.{After-compare-order}
 compared : (c : After-compare-order) → let a = c.args in
     c.compare-order.result ≡ cmp (root_text a.word.now a.a) (root_text a.word.now a.b)
 compared c =
-    let p = c in
-    c.compare-order.ensures ∙ cc (p.root_of.ensures, c.root_of-2.ensures)
+    c.compare-order.ensures ∙ cc (c.root_of.ensures, c.root_of-2.ensures)
 
 pub returns-in-Less : goal.returns-in-Less
 returns-in-Less c = ap is_less (sym c.in-Less.is ∙ compared (goal.at.returns-in-Less c).After-compare-order)

@@ -4,6 +4,5 @@ use Rattle.ranking.proofs.root_of.Goals as goal
 
 pub returns : goal.returns
 returns c =
-    let p = c in
-    let a = p.args in
-    c.part_of.ensures ∙ cc (p.wide-to.ensures, p.wide-from.ensures)
+    let a = c.args in
+    c.part_of.ensures ∙ cc (c.wide-to.ensures, c.wide-from.ensures)

@@ -6,6 +6,5 @@ use Rattle.ranking.proofs.stem_of.Goals as goal
 
 pub returns : goal.returns
 returns c =
-    let p = c in
-    let a = p.args in
-    c.part_of.ensures ∙ ap (λ (n : ℕ). part a.word.now 0 n) p.wide-to.ensures
+    let a = c.args in
+    c.part_of.ensures ∙ ap (λ (n : ℕ). part a.word.now 0 n) c.wide-to.ensures

@@ -22,10 +22,9 @@ bounds-head-i c = omega arith
 
 pub returns-then-s-i : goal.returns-then-s-i
 returns-then-s-i c =
-    let d = c in
-    let a = d.args in
-    let z = begins_turn a.head.now a.s.now d.loop-i.i (omega arith) (omega arith) in
-    sym (d.loop-i.invariant.1 ∙ z ∙ rw (ne_eqb _ _ (λ e. c.if-s-i.true (sym e))))
+    let a = c.args in
+    let z = begins_turn a.head.now a.s.now c.loop-i.i (omega arith) (omega arith) in
+    sym (c.loop-i.invariant.1 ∙ z ∙ rw (ne_eqb _ _ (λ e. c.if-s-i.true (sym e))))
 
 pub overflow_add-i : goal.overflow_add-i
 overflow_add-i c = omega arith
@@ -35,12 +34,10 @@ loop-i-smaller c = omega arith
 
 pub loop-i-preserved : goal.loop-i-preserved
 loop-i-preserved c =
-    let d = c in
-    let a = d.args in
-    let z = begins_turn a.head.now a.s.now d.loop-i.i (omega arith) (omega arith) in
-    (omega arith, d.loop-i.invariant.1 ∙ z ∙ rw (eq-eqb _ _ (sym c.if-s-i.false), add-one))
+    let a = c.args in
+    let z = begins_turn a.head.now a.s.now c.loop-i.i (omega arith) (omega arith) in
+    (omega arith, c.loop-i.invariant.1 ∙ z ∙ rw (eq-eqb _ _ (sym c.if-s-i.false), add-one))
 
 pub returns : goal.returns
 returns c =
-    let d = c in
-    sym (d.loop-i.invariant.1 ∙ rw (drop_of_length-le d.args.head.now c.loop-i-test.false))
+    sym (c.loop-i.invariant.1 ∙ rw (drop_of_length-le c.args.head.now c.loop-i-test.false))

@@ -11,8 +11,7 @@ loop-i-init c = (omega arith, omega arith, refl)
 
 pub returns-then-b-i : goal.returns-then-b-i
 returns-then-b-i c =
-    let d = c in
-    sym (d.loop-i.invariant.2 ∙ turn_long _ _ d.loop-i.i (omega arith) (omega arith))
+    sym (c.loop-i.invariant.2 ∙ turn_long _ _ c.loop-i.i (omega arith) (omega arith))
 
 pub bounds-a-i : goal.bounds-a-i
 bounds-a-i c = omega arith
@@ -22,8 +21,7 @@ bounds-b-i c = omega arith
 
 pub returns-then-a-i : goal.returns-then-a-i
 returns-then-a-i c =
-    let d = c in
-    sym (d.loop-i.invariant.2 ∙ turn_less _ _ d.loop-i.i (omega arith) (omega arith) c.if-a-i.true)
+    sym (c.loop-i.invariant.2 ∙ turn_less _ _ c.loop-i.i (omega arith) (omega arith) c.if-a-i.true)
 
 pub bounds-b-i-in-loop-i : goal.bounds-b-i-in-loop-i
 bounds-b-i-in-loop-i c = omega arith
@@ -33,8 +31,7 @@ bounds-a-i-in-loop-i c = omega arith
 
 pub returns-then-b-i-2 : goal.returns-then-b-i-2
 returns-then-b-i-2 c =
-    let d = c in
-    sym (d.loop-i.invariant.2 ∙ turn_greater _ _ d.loop-i.i (omega arith) (omega arith) c.if-b-i-2.true)
+    sym (c.loop-i.invariant.2 ∙ turn_greater _ _ c.loop-i.i (omega arith) (omega arith) c.if-b-i-2.true)
 
 pub overflow_add-i : goal.overflow_add-i
 overflow_add-i c = omega arith
@@ -44,16 +41,13 @@ loop-i-smaller c = omega arith
 
 pub loop-i-preserved : goal.loop-i-preserved
 loop-i-preserved c =
-    let d = c in
     let e = le_antisymm c.if-b-i-2.false c.if-a-i.false in
-    (omega arith, omega arith, d.loop-i.invariant.2 ∙ turn_same _ _ d.loop-i.i (omega arith) (omega arith) e)
+    (omega arith, omega arith, c.loop-i.invariant.2 ∙ turn_same _ _ c.loop-i.i (omega arith) (omega arith) e)
 
 pub returns-then-i-b : goal.returns-then-i-b
 returns-then-i-b c =
-    let d = c in
-    sym (d.loop-i.invariant.2 ∙ turn_short _ _ d.loop-i.i (omega arith) (omega arith))
+    sym (c.loop-i.invariant.2 ∙ turn_short _ _ c.loop-i.i (omega arith) (omega arith))
 
 pub returns : goal.returns
 returns c =
-    let d = c in
-    sym (d.loop-i.invariant.2 ∙ turn_ended _ _ d.loop-i.i (omega arith) (omega arith))
+    sym (c.loop-i.invariant.2 ∙ turn_ended _ _ c.loop-i.i (omega arith) (omega arith))

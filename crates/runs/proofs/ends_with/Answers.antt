@@ -43,17 +43,15 @@ loop-left-smaller c = omega arith
 
 pub loop-left-preserved : goal.loop-left-preserved
 loop-left-preserved c =
-    let d = c in
-    let a = d.args in
+    let a = c.args in
     let s = a.s.now in
     let t = a.tail.now in
-    (omega arith, tail_turn s t (length s - length t) d.loop-left.left (omega arith) (omega arith) (omega arith) c.if-s-from.false d.loop-left.invariant.1)
+    (omega arith, tail_turn s t (length s - length t) c.loop-left.left (omega arith) (omega arith) (omega arith) c.if-s-from.false c.loop-left.invariant.1)
 
 pub returns : goal.returns
 returns c =
-    let d = c in
-    let a = d.args in
+    let a = c.args in
     let s = a.s.now in
     let t = a.tail.now in
-    let z : d.loop-left.left ≡ 0 = omega arith in
-    sym (ends_here t s (omega arith) ∙ rw z at d.loop-left.invariant.1)
+    let z : c.loop-left.left ≡ 0 = omega arith in
+    sym (ends_here t s (omega arith) ∙ rw z at c.loop-left.invariant.1)

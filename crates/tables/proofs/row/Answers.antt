@@ -11,8 +11,7 @@ cut : (c : After-wide-to)
     → (c.wide-from.result ≤ c.wide-to.result) × (c.wide-to.result ≤ length c.args.bytes.now)
 unfolding Cuts
 cut c =
-    let s = c in
-    let h = s.requires.0 s.args.k s.requires.1 in
+    let h = c.requires.0 c.args.k c.requires.1 in
     (omega arith, omega arith)
 
 pub slice_bounds-result-count : goal.slice_bounds-result-count

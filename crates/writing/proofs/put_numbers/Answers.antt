@@ -28,25 +28,17 @@ two_numbers n start =
 
 pub returns-in-Number : goal.returns-in-Number
 returns-in-Number c =
-    let p3 = c in
-    let p2 = p3 in
-    let p1 = p2 in
-    put_as (sym (ap (λ (r : Numbers). refused_text (numbers_told r)) p2.in-Number.is ∙ one_number _))
-    (put_both p1.put-a.ensures (put_both p2.put_decimal-b.ensures p3.put.ensures))
+    put_as (sym (ap (λ (r : Numbers). refused_text (numbers_told r)) c.in-Number.is ∙ one_number _))
+    (put_both c.put-a.ensures (put_both c.put_decimal-b.ensures c.put.ensures))
 
 pub shape_of-out-in-Number : goal.shape_of-out-in-Number
 shape_of-out-in-Number c = (returns-in-Number c).size
 
 pub returns-in-Placed : goal.returns-in-Placed
 returns-in-Placed c =
-    let p5 = c in
-    let p4 = p5 in
-    let p3 = p4 in
-    let p2 = p3 in
-    let p1 = p2 in
-    put_as (sym (ap (λ (r : Numbers). refused_text (numbers_told r)) p2.in-Placed.is ∙ two_numbers _ _))
-    (put_both p1.put-a.ensures
-    (put_both p2.put_decimal-b-in-Placed.ensures (put_both p3.put-c.ensures (put_both p4.put_decimal-d.ensures p5.put-in-Placed.ensures))))
+    put_as (sym (ap (λ (r : Numbers). refused_text (numbers_told r)) c.in-Placed.is ∙ two_numbers _ _))
+    (put_both c.put-a.ensures
+    (put_both c.put_decimal-b-in-Placed.ensures (put_both c.put-c.ensures (put_both c.put_decimal-d.ensures c.put-in-Placed.ensures))))
 
 pub shape_of-out-in-Placed : goal.shape_of-out-in-Placed
 shape_of-out-in-Placed c = (returns-in-Placed c).size

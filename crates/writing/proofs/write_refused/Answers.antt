@@ -10,12 +10,9 @@ slice_bounds-put_numbers-end c = refl
 
 pub returns-then-out-n : goal.returns-then-out-n
 returns-then-out-n c =
-    let p = c in
-    written-not (put_as (ap refused_text p.numbers_of-numbers.ensures) p.put_numbers-n.ensures) c.if-out-n.true
+    written-not (put_as (ap refused_text c.numbers_of-numbers.ensures) c.put_numbers-n.ensures) c.if-out-n.true
 
 pub returns : goal.returns
 returns c =
-    let e = c in
-    let p = e in
-    let t = ap refused_text p.numbers_of-numbers.ensures in
-    written-whole (put_as t p.put_numbers-n.ensures) e.if-out-n.false (omega arith) (put_as t c.put_numbers.ensures)
+    let t = ap refused_text c.numbers_of-numbers.ensures in
+    written-whole (put_as t c.put_numbers-n.ensures) c.if-out-n.false (omega arith) (put_as t c.put_numbers.ensures)

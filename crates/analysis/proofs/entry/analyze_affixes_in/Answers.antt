@@ -33,19 +33,14 @@ module _ (c : After-prepare_word-inputs) where
 
 pub listed-requires : goal.listed-requires
 listed-requires c =
-    let k = c in
-    (word-said (w (goal.at.listed-requires c).After-prepare_word-inputs) k.prepare_word-inputs.result k.prepare_word-inputs.ensures c.in-Accepted.is, k.requires)
+    (word-said (w (goal.at.listed-requires c).After-prepare_word-inputs) c.prepare_word-inputs.result c.prepare_word-inputs.ensures c.in-Accepted.is, c.requires)
 
 pub returns-in-Refused : goal.returns-in-Refused
 returns-in-Refused c =
-    let i = c in
-    let k = i in
-    let r = rows-by (goal.at.returns-in-Refused c).After-prepare_word-inputs _ i.in-Refused.is in
-    (c.refused.ensures.0 ∙ said-by (goal.at.returns-in-Refused c).After-prepare_word-inputs _ i.in-Refused.is, c.refused.ensures.1 ∙ r, c.refused.ensures.2 ∙ ap length r, c.refused.ensures.3 ∙ visits-by (goal.at.returns-in-Refused c).After-prepare_word-inputs _ i.in-Refused.is)
+    let r = rows-by (goal.at.returns-in-Refused c).After-prepare_word-inputs _ c.in-Refused.is in
+    (c.refused.ensures.0 ∙ said-by (goal.at.returns-in-Refused c).After-prepare_word-inputs _ c.in-Refused.is, c.refused.ensures.1 ∙ r, c.refused.ensures.2 ∙ ap length r, c.refused.ensures.3 ∙ visits-by (goal.at.returns-in-Refused c).After-prepare_word-inputs _ c.in-Refused.is)
 
 pub returns-in-Accepted : goal.returns-in-Accepted
 returns-in-Accepted c =
-    let e = c in
-    let k = e in
-    let r = rows-by (goal.at.returns-in-Accepted c).After-prepare_word-inputs _ e.in-Accepted.is in
-    (c.listed.ensures.0 ∙ said-by (goal.at.returns-in-Accepted c).After-prepare_word-inputs _ e.in-Accepted.is, c.listed.ensures.1 ∙ r, c.listed.ensures.2 ∙ ap length r, c.listed.ensures.3 ∙ visits-by (goal.at.returns-in-Accepted c).After-prepare_word-inputs _ e.in-Accepted.is)
+    let r = rows-by (goal.at.returns-in-Accepted c).After-prepare_word-inputs _ c.in-Accepted.is in
+    (c.listed.ensures.0 ∙ said-by (goal.at.returns-in-Accepted c).After-prepare_word-inputs _ c.in-Accepted.is, c.listed.ensures.1 ∙ r, c.listed.ensures.2 ∙ ap length r, c.listed.ensures.3 ∙ visits-by (goal.at.returns-in-Accepted c).After-prepare_word-inputs _ c.in-Accepted.is)

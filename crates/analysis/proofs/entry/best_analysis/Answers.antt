@@ -7,6 +7,4 @@ use Rattle.analysis.proofs.entry.best_analysis.Goals as goal
 
 pub returns : goal.returns
 returns c =
-    let f = c in
-    let k = f in
-    (k.analyze_affixes-analysis.ensures.0, f.first_of-reading.ensures ∙ ap (λ (x : List Classified). take 1 x) k.analyze_affixes-analysis.ensures.1)
+    (c.analyze_affixes-analysis.ensures.0, c.first_of-reading.ensures ∙ ap (λ (x : List Classified). take 1 x) c.analyze_affixes-analysis.ensures.1)

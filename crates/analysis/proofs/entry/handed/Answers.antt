@@ -20,9 +20,8 @@ returns-then-n-gt-LIMIT c =
 
 pub returns : goal.returns
 returns c =
-    let k = c in
-    let a = k.args in
-    let h = k.if-n-gt-LIMIT.false in
+    let a = c.args in
+    let h = c.if-n-gt-LIMIT.false in
     let e = kept-rows a.out.now a.n _ h refl in
     let l = ap (listed_rows (reply a.sheet.now) a.word.now) e in
     let n = length-map (take a.n (rows_in a.out.now)) (classified (reply a.sheet.now) a.word.now)

@@ -23,7 +23,7 @@ module _ (c : After-best_analysis-best) where
       ∙ ap (has_by (said_of w s)) (some-rows c.best_analysis-best.result (rows_given w s) c.best_analysis-best.ensures.1)
 
 pub returns-in-Refused : goal.returns-in-Refused
-returns-in-Refused c = let i = c in has-by (goal.at.returns-in-Refused c).After-best_analysis-best _ i.in-Refused.is
+returns-in-Refused c = has-by (goal.at.returns-in-Refused c).After-best_analysis-best _ c.in-Refused.is
 
 pub returns-in-Listed : goal.returns-in-Listed
 returns-in-Listed c = has-by (goal.at.returns-in-Listed c).After-best_analysis-best _ c.in-Listed.is

@@ -9,12 +9,8 @@ use Rattle.analysis.proofs.entry.is_seven.Goals as goal
 -- the first of the numbers is the refusal's
 pub returns-in-Number : goal.returns-in-Number
 returns-in-Number c =
-    let i = c in
-    let n = i in
-    ap (λ (k : ℕ). eqb k 7) (head-eq_of_cons-eq (ap numbers_told (sym i.in-Number.is) ∙ n.numbers_of-numbers.ensures))
+    ap (λ (k : ℕ). eqb k 7) (head-eq_of_cons-eq (ap numbers_told (sym c.in-Number.is) ∙ c.numbers_of-numbers.ensures))
 
 pub returns-in-Placed : goal.returns-in-Placed
 returns-in-Placed c =
-    let i = c in
-    let n = i in
-    ap (λ (k : ℕ). eqb k 7) (head-eq_of_cons-eq (ap numbers_told (sym i.in-Placed.is) ∙ n.numbers_of-numbers.ensures))
+    ap (λ (k : ℕ). eqb k 7) (head-eq_of_cons-eq (ap numbers_told (sym c.in-Placed.is) ∙ c.numbers_of-numbers.ensures))

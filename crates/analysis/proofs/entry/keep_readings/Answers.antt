@@ -25,30 +25,27 @@ use Rattle.analysis.proofs.entry.keep_readings.Goals.{After-count-surface}
 -- the surface has at most 192 characters
 few : (c : After-count-surface) → c.count-surface.result ≤ 192
 few c =
-    let a = c in
-    let n = word-parts a.args.word.now a.requires.0 in
-    omega (arith, c.count-surface.ensures, chars_most a.args.word.now, n.0)
+    let n = word-parts c.args.word.now c.requires.0 in
+    omega (arith, c.count-surface.ensures, chars_most c.args.word.now, n.0)
 
 pub overflow_cast-surface : goal.overflow_cast-surface
 overflow_cast-surface c = omega (arith, few (goal.at.overflow_cast-surface c).After-count-surface)
 
 pub visit-walked-requires : goal.visit-walked-requires
-visit-walked-requires c =
-    let n = c in
-    let a = n in (
-      record {
-        indexed = a.requires.1;
-        texts_laid = record { in_bytes = n.affixes-texts.ensures; in_starts = n.affix_starts-cuts.ensures };
-        forms-laid = record { in_bytes = n.prefix_forms-forms.ensures; in_starts = n.prefix_form_starts-form_cuts.ensures };
-        short = (word-parts a.args.word.now a.requires.0).0;
-      },
-      omega arith,
-      few (goal.at.visit-walked-requires c).After-count-surface,
-      omega arith,
-      omega arith,
-      (a.requires.2, omega arith),
-      omega arith,
-    )
+visit-walked-requires c = (
+  record {
+    indexed = c.requires.1;
+    texts_laid = record { in_bytes = c.affixes-texts.ensures; in_starts = c.affix_starts-cuts.ensures };
+    forms-laid = record { in_bytes = c.prefix_forms-forms.ensures; in_starts = c.prefix_form_starts-form_cuts.ensures };
+    short = (word-parts c.args.word.now c.requires.0).0;
+  },
+  omega arith,
+  few (goal.at.visit-walked-requires c).After-count-surface,
+  omega arith,
+  omega arith,
+  (c.requires.2, omega arith),
+  omega arith,
+)
 
 -- what is kept at first, and the chain that the walk begins with
 begun : (w out : List ℕ) (ask : Ask) (surface : ℕ) (s : Segment) → s ≡ no_segment
@@ -61,14 +58,13 @@ begun w out ask surface s e =
 
 pub returns : goal.returns
 returns c =
-    let v = c in
-    let n = v in
+    let n = c in
     let a = n.args in (
-      v.visit-walked.ensures.0
-          ∙ begun a.word.now _ (reply a.sheet.now) n.count-surface.result _ v.blank-s.ensures
+      c.visit-walked.ensures.0
+          ∙ begun a.word.now _ (reply a.sheet.now) n.count-surface.result _ c.blank-s.ensures
           ∙ ap (λ (k : ℕ). plus_all a.word.now (rows []) (word_walk (reply a.sheet.now) k a.word.now)) n.count-surface.ensures,
-      v.visit-walked.ensures.1,
+      c.visit-walked.ensures.1,
       c.unless_empty-visits.ensures
-          ∙ ap (λ (n : ℕ). pick (eqb (length a.word.now) 0) 0 n) (v.visit-walked.ensures.2 ∙ ap (weighed 4 (reply a.sheet.now) 25 1) (take-length a.word.now))
+          ∙ ap (λ (n : ℕ). pick (eqb (length a.word.now) 0) 0 n) (c.visit-walked.ensures.2 ∙ ap (weighed 4 (reply a.sheet.now) 25 1) (take-length a.word.now))
           ∙ word_visits (reply a.sheet.now) a.word.now,
     )

@@ -9,8 +9,6 @@ use Rattle.analysis.proofs.origins.classify_root.Goals as goal
 pub returns : goal.returns
 unfolding classified
 returns c =
-    let d = c in
-    let r = d in
-    let a = r.args in
+    let a = c.args in
     c.with_origin.ensures
-    ∙ ap (with_origin a.reading) (d.decide_origin.ensures ∙ ap (decision_of (reply a.sheet.now)) r.root_of.ensures)
+    ∙ ap (with_origin a.reading) (c.decide_origin.ensures ∙ ap (decision_of (reply a.sheet.now)) c.root_of.ensures)

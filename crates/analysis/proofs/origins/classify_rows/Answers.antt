@@ -53,25 +53,22 @@ grown f xs ys i r a h k p q e =
 
 pub loop-i-preserved : goal.loop-i-preserved
 loop-i-preserved c =
-    let r = c in
-    let k = r in
-    let a = k.args in (
+    let a = c.args in (
       omega arith,
-      k.loop-i.invariant.1,
-      k.loop-i.invariant.2,
-      simp length-set k.loop-i.invariant.3,
-      grown (classified (reply a.sheet.now) a.word.now) k.loop-i.list.rows (rows_in a.out.now) k.loop-i.i _ _ (omega arith)
-          (omega (arith, rows-length a.out.now)) r.row_at-r.ensures c.classify_root.ensures k.loop-i.invariant.4,
-      k.loop-i.invariant.5,
+      c.loop-i.invariant.1,
+      c.loop-i.invariant.2,
+      simp length-set c.loop-i.invariant.3,
+      grown (classified (reply a.sheet.now) a.word.now) c.loop-i.list.rows (rows_in a.out.now) c.loop-i.i _ _ (omega arith)
+          (omega (arith, rows-length a.out.now)) c.row_at-r.ensures c.classify_root.ensures c.loop-i.invariant.4,
+      c.loop-i.invariant.5,
     )
 
 pub returns : goal.returns
 returns c =
-    let k = c in
-    let a = k.args in
-    let e : k.loop-i.i ≡ a.n = omega arith in (
-      ap (λ (j : ℕ). take j k.loop-i.list.rows) (sym e)
-          ∙ k.loop-i.invariant.4
+    let a = c.args in
+    let e : c.loop-i.i ≡ a.n = omega arith in (
+      ap (λ (j : ℕ). take j c.loop-i.list.rows) (sym e)
+          ∙ c.loop-i.invariant.4
           ∙ ap (λ (j : ℕ). map (classified (reply a.sheet.now) a.word.now) (take j (rows_in a.out.now))) e,
       refl,
     )

@@ -10,10 +10,9 @@ use Rattle.analysis.specs.Places.{between}
 use Rattle.analysis.proofs.prefixes.begins.Goals as goal
 
 pub row-requires : goal.row-requires
-row-requires c = let a = c in laid-asks a.requires.0 a.args.k (omega (arith, prefix_form_count, a.requires.3))
+row-requires c = laid-asks c.requires.0 c.args.k (omega (arith, prefix_form_count, c.requires.3))
 
 pub returns : goal.returns
 returns c =
-    let a = c in
     c.begins_with.ensures
-    ∙ ap (λ (t : List ℕ). begins_with t (between a.args.word.now a.args.«from» a.args.stem)) (c.row.ensures ∙ laid-row a.requires.0 a.args.k (omega (arith, prefix_form_count, a.requires.3)))
+    ∙ ap (λ (t : List ℕ). begins_with t (between c.args.word.now c.args.«from» c.args.stem)) (c.row.ensures ∙ laid-row c.requires.0 c.args.k (omega (arith, prefix_form_count, c.requires.3)))

@@ -16,7 +16,7 @@ use Rattle.paths.specs.Chains.{all_forms, form_of}
 use Rattle.paths.specs.Walk.{root_walk, on_left, second_walk}
 use Rattle.paths.specs.Readings.{prefixes_of}
 use Rattle.analysis.specs.Places.{between, root_found}
-use Rattle.analysis.proofs.Cuts.{front-none, front-left, root_at}
+use Rattle.analysis.proofs.Cuts.{asked, front-none, front-left, root_at}
 use Rattle.analysis.proofs.Turns.{second_none, second_bare, second_some}
 use Rattle.analysis.proofs.Opened.{no-forms}
 use Rattle.paths.specs.Visits.{total, prefix_visits}
@@ -24,36 +24,19 @@ use Rattle.analysis.proofs.Visited.{left-none, left_one, prefix_none, prefix_bar
 use borrow.Author.Rules.{rules}
 use Rattle.analysis.proofs.prefixes.first_row.Goals as goal
 use Rattle.analysis.proofs.prefixes.first_row.Lts.View.{up-In-From}
-use Rattle.analysis.proofs.prefixes.first_row.Goals.{After-prefix_rest-rest, After-with_root-f, In-From}
+use Rattle.analysis.proofs.prefixes.first_row.Goals.{After-with_root-f, In-From}
 
 pub row-form-requires : goal.row-form-requires
-row-form-requires c = let a = c in laid-asks a.requires.0.forms-laid a.args.first (omega (arith, prefix_form_count, a.requires.2))
-
-abbrev piece : After-prefix_rest-rest → List ℕ
-piece c = take c.args.at.end c.args.word.now
-
-asked : (c : After-prefix_rest-rest) → c.prefix_rest-rest.result ≡ rest_of (piece c) (form_of c.args.first)
-asked c =
-    let a = c in
-    c.prefix_rest-rest.ensures ∙ ap (rest_of (piece c)) (c.row-form.ensures ∙ laid-row a.requires.0.forms-laid a.args.first (omega (arith, prefix_form_count, a.requires.2)))
+row-form-requires c = laid-asks c.requires.0.forms-laid c.args.first (omega (arith, prefix_form_count, c.requires.2))
 
 pub slice_bounds-prefix_rest-end : goal.slice_bounds-prefix_rest-end
-slice_bounds-prefix_rest-end c = let a = c in sym (length-take-le a.args.at.end a.args.word.now a.requires.1)
-
--- the same, where a remainder is left
-asked_from : (c : In-From) → c.prefix_rest-rest.result ≡ rest_of (take c.args.at.end c.args.word.now) (form_of c.args.first)
-asked_from c = c.prefix_rest-rest.ensures ∙ ap (rest_of (take c.args.at.end c.args.word.now)) (c.row-form.ensures ∙ laid-row c.requires.0.forms-laid c.args.first (omega (arith, prefix_form_count, c.requires.2)))
-
-asked_then : (c : After-with_root-f) → c.prefix_rest-rest.result ≡ rest_of (take c.args.at.end c.args.word.now) (form_of c.args.first)
-asked_then c = c.prefix_rest-rest.ensures ∙ ap (rest_of (take c.args.at.end c.args.word.now)) (c.row-form.ensures ∙ laid-row c.requires.0.forms-laid c.args.first (omega (arith, prefix_form_count, c.requires.2)))
+slice_bounds-prefix_rest-end c = sym (length-take-le c.args.at.end c.args.word.now c.requires.1)
 
 -- the root begins inside the stem
 inside : (c : In-From) → c.in-From.root ≤ c.args.at.end
 inside c =
-    let p = c in
-    let a = p in
-    let n = rest-inside (take c.args.at.end c.args.word.now) (form_of a.args.first) c.in-From.root (sym (asked_from c) ∙ c.in-From.is) in
-    let l : length (take c.args.at.end c.args.word.now) ≡ a.args.at.end = length-take-le a.args.at.end a.args.word.now a.requires.1 in
+    let n = rest-inside (take c.args.at.end c.args.word.now) (form_of c.args.first) c.in-From.root (sym ((asked c.requires.0.forms-laid c.args.first (omega (arith, prefix_form_count, c.requires.2)) (take c.args.at.end c.args.word.now) _ _ c.prefix_rest-rest.ensures c.row-form.ensures)) ∙ c.in-From.is) in
+    let l : length (take c.args.at.end c.args.word.now) ≡ c.args.at.end = length-take-le c.args.at.end c.args.word.now c.requires.1 in
     omega (arith, n)
 
 pub slice_bounds-has_supported_progressive_form-count : goal.slice_bounds-has_supported_progressive_form-count
@@ -67,19 +50,16 @@ has_supported_progressive_form-progressive-requires c = c.requires.0.indexed
 
 pub with_root-f-requires : goal.with_root-f-requires
 with_root-f-requires c =
-    let r = c in
-    let a = r in
-    (a.requires.0.indexed, a.requires.0.texts_laid, inside (goal.at.with_root-f-requires c).In-From, a.requires.1, a.requires.0.short, a.requires.3, omega arith, a.requires.4, c.has_supported_progressive_form-progressive.ensures, a.requires.5)
+    (c.requires.0.indexed, c.requires.0.texts_laid, inside (goal.at.with_root-f-requires c).In-From, c.requires.1, c.requires.0.short, c.requires.3, omega arith, c.requires.4, c.has_supported_progressive_form-progressive.ensures, c.requires.5)
 
 pub returns-in-Nothing : goal.returns-in-Nothing
 unfolding plus_all
 returns-in-Nothing c =
-    let p = c in
-    let a = p.args in (
+    let a = c.args in (
       sym (ap (λ (l : List (List ℕ)). plus_all a.word.now (kept_of a.out.now a.n) (on_left (second_walk (reply a.sheet.now) a.surface a.at.chain (take a.at.end a.word.now) a.first) l))
-          (front-none a.word.now a.at.end (form_of a.first) (sym c.in-Nothing.is ∙ asked (goal.at.returns-in-Nothing c).After-prefix_rest-rest))),
-      p.requires.5.1,
-      left-none (prefix_visits 1 (reply a.sheet.now)) (piece (goal.at.returns-in-Nothing c).After-prefix_rest-rest) (form_of a.first) (front-none a.word.now a.at.end (form_of a.first) (sym c.in-Nothing.is ∙ asked (goal.at.returns-in-Nothing c).After-prefix_rest-rest)),
+          (front-none a.word.now a.at.end (form_of a.first) (sym c.in-Nothing.is ∙ (asked c.requires.0.forms-laid c.args.first (omega (arith, prefix_form_count, c.requires.2)) (take c.args.at.end c.args.word.now) _ _ c.prefix_rest-rest.ensures c.row-form.ensures)))),
+      c.requires.5.1,
+      left-none (prefix_visits 1 (reply a.sheet.now)) (take c.args.at.end c.args.word.now) (form_of a.first) (front-none a.word.now a.at.end (form_of a.first) (sym c.in-Nothing.is ∙ (asked c.requires.0.forms-laid c.args.first (omega (arith, prefix_form_count, c.requires.2)) (take c.args.at.end c.args.word.now) _ _ c.prefix_rest-rest.ensures c.row-form.ensures))),
     )
 
 -- the prefix's own reading is kept, and the rest of the walk begins at what it leaves
@@ -99,7 +79,7 @@ module _ (c : After-with_root-f) where
   whole e =
       let a = c.args in
       e ∙ sym (ap (λ (l : List (List ℕ)). plus_all a.word.now (kept_of a.out.now a.n) (on_left (second_walk (reply a.sheet.now) a.surface a.at.chain (take a.at.end a.word.now) a.first) l))
-      (front-left a.word.now a.at.end (form_of a.first) c.in-From.root (sym c.in-From.is ∙ asked_then c)))
+      (front-left a.word.now a.at.end (form_of a.first) c.in-From.root (sym c.in-From.is ∙ (asked c.requires.0.forms-laid c.args.first (omega (arith, prefix_form_count, c.requires.2)) (take c.args.at.end c.args.word.now) _ _ c.prefix_rest-rest.ensures c.row-form.ensures))))
 
   -- and so is what is counted there
   counted : {v : ℕ} → v ≡ prefix_visits 1 (reply c.args.sheet.now) rest
@@ -107,56 +87,47 @@ module _ (c : After-with_root-f) where
   counted {v} e =
       let a = c.args in
       left_one (prefix_visits 1 (reply a.sheet.now)) (take a.at.end a.word.now) (form_of a.first) rest v
-      (front-left a.word.now a.at.end (form_of a.first) c.in-From.root (sym c.in-From.is ∙ asked_then c)) e
+      (front-left a.word.now a.at.end (form_of a.first) c.in-From.root (sym c.in-From.is ∙ (asked c.requires.0.forms-laid c.args.first (omega (arith, prefix_form_count, c.requires.2)) (take c.args.at.end c.args.word.now) _ _ c.prefix_rest-rest.ensures c.row-form.ensures))) e
 
 pub returns-then-progressive : goal.returns-then-progressive
 returns-then-progressive c =
-    let w = c in
     let a = c.args in (
-      whole (goal.at.returns-then-progressive c).After-with_root-f (second_none (reply a.sheet.now) a.surface a.at.chain a.word.now (take a.at.end a.word.now) a.first (rest (goal.at.returns-then-progressive c).After-with_root-f) _ _ (own (goal.at.returns-then-progressive c).After-with_root-f w.with_root-f.ensures.0)
-          (sym w.has_supported_progressive_form-progressive.ensures ∙ c.if-progressive.true)),
-      w.with_root-f.ensures.1,
-      counted (goal.at.returns-then-progressive c).After-with_root-f (prefix_none 0 (reply a.sheet.now) (rest (goal.at.returns-then-progressive c).After-with_root-f) (sym w.has_supported_progressive_form-progressive.ensures ∙ c.if-progressive.true)),
+      whole (goal.at.returns-then-progressive c).After-with_root-f (second_none (reply a.sheet.now) a.surface a.at.chain a.word.now (take a.at.end a.word.now) a.first (rest (goal.at.returns-then-progressive c).After-with_root-f) _ _ (own (goal.at.returns-then-progressive c).After-with_root-f c.with_root-f.ensures.0)
+          (sym c.has_supported_progressive_form-progressive.ensures ∙ c.if-progressive.true)),
+      c.with_root-f.ensures.1,
+      counted (goal.at.returns-then-progressive c).After-with_root-f (prefix_none 0 (reply a.sheet.now) (rest (goal.at.returns-then-progressive c).After-with_root-f) (sym c.has_supported_progressive_form-progressive.ensures ∙ c.if-progressive.true)),
     )
 
 pub slice_bounds-may_begin-count : goal.slice_bounds-may_begin-count
 slice_bounds-may_begin-count c = inside (goal.at.slice_bounds-may_begin-count c).In-From
 
 pub slice_bounds-may_begin-start : goal.slice_bounds-may_begin-start
-slice_bounds-may_begin-start c = let w = c in omega (arith, inside (goal.at.slice_bounds-may_begin-start c).In-From, c.requires.1)
+slice_bounds-may_begin-start c = omega (arith, inside (goal.at.slice_bounds-may_begin-start c).In-From, c.requires.1)
 
 pub returns-then-not-may_begin : goal.returns-then-not-may_begin
 returns-then-not-may_begin c =
-    let e = c in
-    let w = e in
     let a = c.args in (
-      whole (goal.at.returns-then-not-may_begin c).After-with_root-f (second_bare (reply a.sheet.now) a.surface a.at.chain a.word.now (take a.at.end a.word.now) a.first (rest (goal.at.returns-then-not-may_begin c).After-with_root-f) _ _ (own (goal.at.returns-then-not-may_begin c).After-with_root-f w.with_root-f.ensures.0)
-          (sym w.has_supported_progressive_form-progressive.ensures ∙ e.if-progressive.false)
+      whole (goal.at.returns-then-not-may_begin c).After-with_root-f (second_bare (reply a.sheet.now) a.surface a.at.chain a.word.now (take a.at.end a.word.now) a.first (rest (goal.at.returns-then-not-may_begin c).After-with_root-f) _ _ (own (goal.at.returns-then-not-may_begin c).After-with_root-f c.with_root-f.ensures.0)
+          (sym c.has_supported_progressive_form-progressive.ensures ∙ c.if-progressive.false)
           (λ f. no-forms f (rest (goal.at.returns-then-not-may_begin c).After-with_root-f) (sym c.may_begin.ensures ∙ c.if-not-may_begin.true) 0 all_forms (omega arith))),
-      w.with_root-f.ensures.1,
+      c.with_root-f.ensures.1,
       counted (goal.at.returns-then-not-may_begin c).After-with_root-f (prefix_bare 0 (reply a.sheet.now) (rest (goal.at.returns-then-not-may_begin c).After-with_root-f) (sym c.may_begin.ensures ∙ c.if-not-may_begin.true)),
     )
 
 pub second_rows-more-requires : goal.second_rows-more-requires
 second_rows-more-requires c =
-    let w = c in
     let a = c.requires in
-    (a.0, inside (goal.at.second_rows-more-requires c).In-From, a.1, a.3, a.4, (search rules, w.with_root-f.ensures.1))
+    (a.0, inside (goal.at.second_rows-more-requires c).In-From, a.1, a.3, a.4, (search rules, c.with_root-f.ensures.1))
 
 pub overflow_add-result : goal.overflow_add-result
 overflow_add-result c =
-    let r = c in
-    let w = r in
-    omega (arith, r.second_rows-more.ensures.2, second_few (reply c.args.sheet.now) (rest (goal.at.overflow_add-result c).After-with_root-f))
+    omega (arith, c.second_rows-more.ensures.2, second_few (reply c.args.sheet.now) (rest (goal.at.overflow_add-result c).After-with_root-f))
 
 pub returns-else-not-may_begin : goal.returns-else-not-may_begin
 returns-else-not-may_begin c =
-    let r = c in
-    let e = r in
-    let w = e in
     let a = c.args in (
-      whole (goal.at.returns-else-not-may_begin c).After-with_root-f (second_some (reply a.sheet.now) a.surface a.at.chain a.word.now (take a.at.end a.word.now) a.first (rest (goal.at.returns-else-not-may_begin c).After-with_root-f) _ _ (own (goal.at.returns-else-not-may_begin c).After-with_root-f w.with_root-f.ensures.0) _
-          (sym w.has_supported_progressive_form-progressive.ensures ∙ e.if-progressive.false) r.second_rows-more.ensures.0),
-      r.second_rows-more.ensures.1,
-      counted (goal.at.returns-else-not-may_begin c).After-with_root-f (prefix_some 0 (reply a.sheet.now) (rest (goal.at.returns-else-not-may_begin c).After-with_root-f) _ (sym w.has_supported_progressive_form-progressive.ensures ∙ e.if-progressive.false) r.second_rows-more.ensures.2),
+      whole (goal.at.returns-else-not-may_begin c).After-with_root-f (second_some (reply a.sheet.now) a.surface a.at.chain a.word.now (take a.at.end a.word.now) a.first (rest (goal.at.returns-else-not-may_begin c).After-with_root-f) _ _ (own (goal.at.returns-else-not-may_begin c).After-with_root-f c.with_root-f.ensures.0) _
+          (sym c.has_supported_progressive_form-progressive.ensures ∙ c.if-progressive.false) c.second_rows-more.ensures.0),
+      c.second_rows-more.ensures.1,
+      counted (goal.at.returns-else-not-may_begin c).After-with_root-f (prefix_some 0 (reply a.sheet.now) (rest (goal.at.returns-else-not-may_begin c).After-with_root-f) _ (sym c.has_supported_progressive_form-progressive.ensures ∙ c.if-progressive.false) c.second_rows-more.ensures.2),
     )

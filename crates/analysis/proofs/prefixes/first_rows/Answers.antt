@@ -22,10 +22,8 @@ begins-requires c = let p = c.requires in (p.0.forms-laid, omega arith, p.1, c.l
 
 pub first_row-r-requires : goal.first_row-r-requires
 first_row-r-requires c =
-    let i = c in
-    let k = i in
-    let p = k.requires in
-    (p.0, p.1, i.loop-k-test.true, p.2, p.3, (omega (arith, k.loop-k.invariant.2, p.4.0), k.loop-k.invariant.1))
+    let p = c.requires in
+    (p.0, p.1, c.loop-k-test.true, p.2, p.3, (omega (arith, c.loop-k.invariant.2, p.4.0), c.loop-k.invariant.1))
 
 pub overflow_add-k : goal.overflow_add-k
 overflow_add-k c = omega arith
@@ -33,11 +31,8 @@ overflow_add-k c = omega arith
 -- the count stays small: it is at most that of all rows
 pub overflow_add-v : goal.overflow_add-v
 overflow_add-v c =
-    let r = c in
-    let i = r in
-    let k = i in
-    let a = k.args in
-    let e = visits_turn (prefix_visits 1 (reply a.sheet.now)) (take a.at.end a.word.now) k.loop-k.k k.loop-k.v _ i.loop-k-test.true k.loop-k.invariant.4 r.first_row-r.ensures.2 in
+    let a = c.args in
+    let e = visits_turn (prefix_visits 1 (reply a.sheet.now)) (take a.at.end a.word.now) c.loop-k.k c.loop-k.v _ c.loop-k-test.true c.loop-k.invariant.4 c.first_row-r.ensures.2 in
     omega (arith, e, first-few (reply a.sheet.now) (take a.at.end a.word.now))
 
 pub loop-k-smaller-then-begins : goal.loop-k-smaller-then-begins
@@ -45,15 +40,12 @@ loop-k-smaller-then-begins c = omega (arith, c.loop-k-test.true)
 
 pub loop-k-preserved-then-begins : goal.loop-k-preserved-then-begins
 loop-k-preserved-then-begins c =
-    let r = c in
-    let i = r in
-    let k = i in
-    let a = k.args in (
-      omega (arith, i.loop-k-test.true),
-      r.first_row-r.ensures.1,
+    let a = c.args in (
+      omega (arith, c.loop-k-test.true),
+      c.first_row-r.ensures.1,
       search rules,
-      k.loop-k.invariant.3 ∙ form_turn a.word.now (each a.word.now a.sheet.now a.at.end a.at.chain a.surface) (take a.at.end a.word.now) k.loop-k.k all_forms (kept_of k.loop-k.out k.loop-k.f) _ i.loop-k-test.true r.first_row-r.ensures.0,
-      visits_turn (prefix_visits 1 (reply a.sheet.now)) (take a.at.end a.word.now) k.loop-k.k k.loop-k.v _ i.loop-k-test.true k.loop-k.invariant.4 r.first_row-r.ensures.2,
+      c.loop-k.invariant.3 ∙ form_turn a.word.now (each a.word.now a.sheet.now a.at.end a.at.chain a.surface) (take a.at.end a.word.now) c.loop-k.k all_forms (kept_of c.loop-k.out c.loop-k.f) _ c.loop-k-test.true c.first_row-r.ensures.0,
+      visits_turn (prefix_visits 1 (reply a.sheet.now)) (take a.at.end a.word.now) c.loop-k.k c.loop-k.v _ c.loop-k-test.true c.loop-k.invariant.4 c.first_row-r.ensures.2,
     )
 
 pub loop-k-smaller : goal.loop-k-smaller
@@ -61,14 +53,12 @@ loop-k-smaller c = omega (arith, c.loop-k-test.true)
 
 pub loop-k-preserved : goal.loop-k-preserved
 loop-k-preserved c =
-    let i = c in
-    let k = i in
-    let a = k.args in (
-      omega (arith, i.loop-k-test.true),
-      k.loop-k.invariant.1,
-      k.loop-k.invariant.2,
-      k.loop-k.invariant.3 ∙ form_pass a.word.now (each a.word.now a.sheet.now a.at.end a.at.chain a.surface) (take a.at.end a.word.now) k.loop-k.k all_forms (kept_of k.loop-k.out k.loop-k.f) i.loop-k-test.true (ap (begins_with (form_of k.loop-k.k)) (sym (whole-front a.word.now a.at.end)) ∙ sym c.begins.ensures ∙ c.if-begins.false),
-      visits_pass (prefix_visits 1 (reply a.sheet.now)) (take a.at.end a.word.now) k.loop-k.k k.loop-k.v i.loop-k-test.true k.loop-k.invariant.4 (ap (begins_with (form_of k.loop-k.k)) (sym (whole-front a.word.now a.at.end)) ∙ sym c.begins.ensures ∙ c.if-begins.false),
+    let a = c.args in (
+      omega (arith, c.loop-k-test.true),
+      c.loop-k.invariant.1,
+      c.loop-k.invariant.2,
+      c.loop-k.invariant.3 ∙ form_pass a.word.now (each a.word.now a.sheet.now a.at.end a.at.chain a.surface) (take a.at.end a.word.now) c.loop-k.k all_forms (kept_of c.loop-k.out c.loop-k.f) c.loop-k-test.true (ap (begins_with (form_of c.loop-k.k)) (sym (whole-front a.word.now a.at.end)) ∙ sym c.begins.ensures ∙ c.if-begins.false),
+      visits_pass (prefix_visits 1 (reply a.sheet.now)) (take a.at.end a.word.now) c.loop-k.k c.loop-k.v c.loop-k-test.true c.loop-k.invariant.4 (ap (begins_with (form_of c.loop-k.k)) (sym (whole-front a.word.now a.at.end)) ∙ sym c.begins.ensures ∙ c.if-begins.false),
     )
 
 pub shape_of-out : goal.shape_of-out
@@ -76,6 +66,5 @@ shape_of-out c = c.loop-k.invariant.2
 
 pub returns : goal.returns
 returns c =
-    let k = c in
-    let a = k.args in
-    (sym (k.loop-k.invariant.3 ∙ form-end a.word.now (each a.word.now a.sheet.now a.at.end a.at.chain a.surface) (take a.at.end a.word.now) k.loop-k.k all_forms (kept_of k.loop-k.out k.loop-k.f) c.loop-k-test.false), k.loop-k.invariant.1, visits_end (prefix_visits 1 (reply a.sheet.now)) (take a.at.end a.word.now) k.loop-k.k k.loop-k.v c.loop-k-test.false k.loop-k.invariant.4)
+    let a = c.args in
+    (sym (c.loop-k.invariant.3 ∙ form-end a.word.now (each a.word.now a.sheet.now a.at.end a.at.chain a.surface) (take a.at.end a.word.now) c.loop-k.k all_forms (kept_of c.loop-k.out c.loop-k.f) c.loop-k-test.false), c.loop-k.invariant.1, visits_end (prefix_visits 1 (reply a.sheet.now)) (take a.at.end a.word.now) c.loop-k.k c.loop-k.v c.loop-k-test.false c.loop-k.invariant.4)

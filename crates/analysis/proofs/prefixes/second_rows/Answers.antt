@@ -20,10 +20,8 @@ begins-requires c = let p = c.requires in (p.0.forms-laid, p.1, p.2, c.loop-k-te
 
 pub second_row-r-requires : goal.second_row-r-requires
 second_row-r-requires c =
-    let i = c in
-    let k = i in
-    let p = k.requires in
-    (p.0, p.1, p.2, i.loop-k-test.true, p.3, p.4, (omega (arith, k.loop-k.invariant.2, p.5.0), k.loop-k.invariant.1))
+    let p = c.requires in
+    (p.0, p.1, p.2, c.loop-k-test.true, p.3, p.4, (omega (arith, c.loop-k.invariant.2, p.5.0), c.loop-k.invariant.1))
 
 pub overflow_add-k : goal.overflow_add-k
 overflow_add-k c = omega arith
@@ -31,11 +29,8 @@ overflow_add-k c = omega arith
 -- the count stays small: it is at most that of all rows
 pub overflow_add-v : goal.overflow_add-v
 overflow_add-v c =
-    let r = c in
-    let i = r in
-    let k = i in
-    let a = k.args in
-    let e = visits_turn (prefix_visits 0 (reply a.sheet.now)) (between a.word.now a.«from» a.at.end) k.loop-k.k k.loop-k.v _ i.loop-k-test.true k.loop-k.invariant.4 r.second_row-r.ensures.2 in
+    let a = c.args in
+    let e = visits_turn (prefix_visits 0 (reply a.sheet.now)) (between a.word.now a.«from» a.at.end) c.loop-k.k c.loop-k.v _ c.loop-k-test.true c.loop-k.invariant.4 c.second_row-r.ensures.2 in
     omega (arith, e, second_few (reply a.sheet.now) (between a.word.now a.«from» a.at.end))
 
 pub loop-k-smaller-then-begins : goal.loop-k-smaller-then-begins
@@ -43,15 +38,12 @@ loop-k-smaller-then-begins c = omega (arith, c.loop-k-test.true)
 
 pub loop-k-preserved-then-begins : goal.loop-k-preserved-then-begins
 loop-k-preserved-then-begins c =
-    let r = c in
-    let i = r in
-    let k = i in
-    let a = k.args in (
-      omega (arith, i.loop-k-test.true),
-      r.second_row-r.ensures.1,
+    let a = c.args in (
+      omega (arith, c.loop-k-test.true),
+      c.second_row-r.ensures.1,
       search rules,
-      k.loop-k.invariant.3 ∙ form_turn a.word.now (each a.word.now a.sheet.now a.at.end a.first a.at.chain a.surface) (between a.word.now a.«from» a.at.end) k.loop-k.k all_forms (kept_of k.loop-k.out k.loop-k.f) _ i.loop-k-test.true r.second_row-r.ensures.0,
-      visits_turn (prefix_visits 0 (reply a.sheet.now)) (between a.word.now a.«from» a.at.end) k.loop-k.k k.loop-k.v _ i.loop-k-test.true k.loop-k.invariant.4 r.second_row-r.ensures.2,
+      c.loop-k.invariant.3 ∙ form_turn a.word.now (each a.word.now a.sheet.now a.at.end a.first a.at.chain a.surface) (between a.word.now a.«from» a.at.end) c.loop-k.k all_forms (kept_of c.loop-k.out c.loop-k.f) _ c.loop-k-test.true c.second_row-r.ensures.0,
+      visits_turn (prefix_visits 0 (reply a.sheet.now)) (between a.word.now a.«from» a.at.end) c.loop-k.k c.loop-k.v _ c.loop-k-test.true c.loop-k.invariant.4 c.second_row-r.ensures.2,
     )
 
 pub loop-k-smaller : goal.loop-k-smaller
@@ -59,14 +51,12 @@ loop-k-smaller c = omega (arith, c.loop-k-test.true)
 
 pub loop-k-preserved : goal.loop-k-preserved
 loop-k-preserved c =
-    let i = c in
-    let k = i in
-    let a = k.args in (
-      omega (arith, i.loop-k-test.true),
-      k.loop-k.invariant.1,
-      k.loop-k.invariant.2,
-      k.loop-k.invariant.3 ∙ form_pass a.word.now (each a.word.now a.sheet.now a.at.end a.first a.at.chain a.surface) (between a.word.now a.«from» a.at.end) k.loop-k.k all_forms (kept_of k.loop-k.out k.loop-k.f) i.loop-k-test.true (sym c.begins.ensures ∙ c.if-begins.false),
-      visits_pass (prefix_visits 0 (reply a.sheet.now)) (between a.word.now a.«from» a.at.end) k.loop-k.k k.loop-k.v i.loop-k-test.true k.loop-k.invariant.4 (sym c.begins.ensures ∙ c.if-begins.false),
+    let a = c.args in (
+      omega (arith, c.loop-k-test.true),
+      c.loop-k.invariant.1,
+      c.loop-k.invariant.2,
+      c.loop-k.invariant.3 ∙ form_pass a.word.now (each a.word.now a.sheet.now a.at.end a.first a.at.chain a.surface) (between a.word.now a.«from» a.at.end) c.loop-k.k all_forms (kept_of c.loop-k.out c.loop-k.f) c.loop-k-test.true (sym c.begins.ensures ∙ c.if-begins.false),
+      visits_pass (prefix_visits 0 (reply a.sheet.now)) (between a.word.now a.«from» a.at.end) c.loop-k.k c.loop-k.v c.loop-k-test.true c.loop-k.invariant.4 (sym c.begins.ensures ∙ c.if-begins.false),
     )
 
 pub shape_of-out : goal.shape_of-out
@@ -74,6 +64,5 @@ shape_of-out c = c.loop-k.invariant.2
 
 pub returns : goal.returns
 returns c =
-    let k = c in
-    let a = k.args in
-    (sym (k.loop-k.invariant.3 ∙ form-end a.word.now (each a.word.now a.sheet.now a.at.end a.first a.at.chain a.surface) (between a.word.now a.«from» a.at.end) k.loop-k.k all_forms (kept_of k.loop-k.out k.loop-k.f) c.loop-k-test.false), k.loop-k.invariant.1, visits_end (prefix_visits 0 (reply a.sheet.now)) (between a.word.now a.«from» a.at.end) k.loop-k.k k.loop-k.v c.loop-k-test.false k.loop-k.invariant.4)
+    let a = c.args in
+    (sym (c.loop-k.invariant.3 ∙ form-end a.word.now (each a.word.now a.sheet.now a.at.end a.first a.at.chain a.surface) (between a.word.now a.«from» a.at.end) c.loop-k.k all_forms (kept_of c.loop-k.out c.loop-k.f) c.loop-k-test.false), c.loop-k.invariant.1, visits_end (prefix_visits 0 (reply a.sheet.now)) (between a.word.now a.«from» a.at.end) c.loop-k.k c.loop-k.v c.loop-k-test.false c.loop-k.invariant.4)

@@ -22,20 +22,15 @@ tested c =
 
 pub returns-then-not-is_supported : goal.returns-then-not-is_supported
 returns-then-not-is_supported c =
-    let s = c in
-    let a = s.args in
-    (no-root (reply a.sheet.now) a.surface a.at.chain a.word.now a.at.end a.root a.prefixes _ (sym (tested (goal.at.returns-then-not-is_supported c).After-is_supported) ∙ c.if-not-is_supported.true), s.requires.9.1)
+    let a = c.args in
+    (no-root (reply a.sheet.now) a.surface a.at.chain a.word.now a.at.end a.root a.prefixes _ (sym (tested (goal.at.returns-then-not-is_supported c).After-is_supported) ∙ c.if-not-is_supported.true), c.requires.9.1)
 
 pub returns : goal.returns
 returns c =
-    let k = c in
-    let d = k in
-    let e = d in
-    let t = e in
-    let a = t.args in
-    let q = d.score.ensures ∙ ap (λ (x : Support). score_from a.surface x a.prefixes.count a.at.chain.count) t.support_of-s.ensures
+    let a = c.args in
+    let q = c.score.ensures ∙ ap (λ (x : Support). score_from a.surface x a.prefixes.count a.at.chain.count) c.support_of-s.ensures
     ∙ score_is (reply a.sheet.now) (between a.word.now a.root a.at.end) a.surface a.prefixes.count a.at.chain.count in (
-      k.store.ensures.0
-          ∙ one-root (reply a.sheet.now) a.surface a.at.chain a.word.now a.at.end a.root a.prefixes _ d.score.result (sym (tested (goal.at.returns c).After-is_supported) ∙ e.if-not-is_supported.false) q,
-      k.store.ensures.1,
+      c.store.ensures.0
+          ∙ one-root (reply a.sheet.now) a.surface a.at.chain a.word.now a.at.end a.root a.prefixes _ c.score.result (sym (tested (goal.at.returns c).After-is_supported) ∙ c.if-not-is_supported.false) q,
+      c.store.ensures.1,
     )

@@ -11,13 +11,12 @@ use Rattle.tables.proofs.Laid.{laid-asks, laid-row}
 use Rattle.analysis.proofs.suffixes.ends.Goals as goal
 
 pub slice_bounds-ends_with-end : goal.slice_bounds-ends_with-end
-slice_bounds-ends_with-end c = let a = c in sym (length-take-le a.args.end a.args.word.now a.requires.1)
+slice_bounds-ends_with-end c = sym (length-take-le c.args.end c.args.word.now c.requires.1)
 
 pub row-requires : goal.row-requires
-row-requires c = let a = c in laid-asks a.requires.0 a.args.k (omega (arith, affix_count, a.requires.2))
+row-requires c = laid-asks c.requires.0 c.args.k (omega (arith, affix_count, c.requires.2))
 
 pub returns : goal.returns
 returns c =
-    let a = c in
     c.ends_with.ensures
-    ∙ ap (λ (t : List ℕ). ends_in t (take a.args.end a.args.word.now)) (c.row.ensures ∙ laid-row a.requires.0 a.args.k (omega (arith, affix_count, a.requires.2)))
+    ∙ ap (λ (t : List ℕ). ends_in t (take c.args.end c.args.word.now)) (c.row.ensures ∙ laid-row c.requires.0 c.args.k (omega (arith, affix_count, c.requires.2)))

@@ -14,7 +14,7 @@ use Rattle.analysis.proofs.suffixes.kind_at.Goals as goal
 use Rattle.analysis.proofs.suffixes.kind_at.Goals.{After-kind_of-listed}
 
 pub row-requires : goal.row-requires
-row-requires c = let a = c in laid-asks a.requires.1 a.args.k (omega (arith, affix_count, a.requires.2))
+row-requires c = laid-asks c.requires.1 c.args.k (omega (arith, affix_count, c.requires.2))
 
 pub kind_of-listed-requires : goal.kind_of-listed-requires
 kind_of-listed-requires c = c.requires.0
@@ -24,23 +24,19 @@ asked : (c : After-kind_of-listed) → let a = c.args in
     c.kind_of-listed.result ≡ kind_told (reply a.sheet.now 0x6B (get_or affixes a.k []))
 unfolding kind_for
 asked c =
-    let a = c in
-    c.kind_of-listed.ensures ∙ ap (kind_for a.args.sheet.now) (c.row.ensures ∙ laid-row a.requires.1 a.args.k (omega (arith, affix_count, a.requires.2)))
+    c.kind_of-listed.ensures ∙ ap (kind_for c.args.sheet.now) (c.row.ensures ∙ laid-row c.requires.1 c.args.k (omega (arith, affix_count, c.requires.2)))
 
 pub returns-in-Unlisted : goal.returns-in-Unlisted
 returns-in-Unlisted c =
-    let k = c in
-    let a = k.args in
+    let a = c.args in
     c.group_kind.ensures ∙ ap (λ (x : SheetKind). overridden x (group_kind a.k)) (sym c.in-Unlisted.is ∙ asked (goal.at.returns-in-Unlisted c).After-kind_of-listed)
 
 pub returns-in-Post : goal.returns-in-Post
 returns-in-Post c =
-    let k = c in
-    let a = k.args in
+    let a = c.args in
     ap (λ (x : SheetKind). overridden x (group_kind a.k)) (sym c.in-Post.is ∙ asked (goal.at.returns-in-Post c).After-kind_of-listed)
 
 pub returns-in-Comp : goal.returns-in-Comp
 returns-in-Comp c =
-    let k = c in
-    let a = k.args in
+    let a = c.args in
     ap (λ (x : SheetKind). overridden x (group_kind a.k)) (sym c.in-Comp.is ∙ asked (goal.at.returns-in-Comp c).After-kind_of-listed)

@@ -18,16 +18,13 @@ use Rattle.analysis.proofs.support.support_of.Goals.{After-letters_in-letters, T
 unasked : (c : Then-range) → let a = c.args in
     (q : List ℕ) → reply a.sheet.now 0x77 (a.root.now ++ q) ≡ Reply.unknown
 unasked c q =
-    let g = c in
-    let b = g in
-    none_begun b.args.sheet.now 0x77 b.args.root.now b.args.starts.now b.requires.0 g.range_of-range.result g.range_of-range.ensures q c.if-range.true
+    none_begun c.args.sheet.now 0x77 c.args.root.now c.args.starts.now c.requires.0 c.range_of-range.result c.range_of-range.ensures q c.if-range.true
 
 pub returns-then-range : goal.returns-then-range
 returns-then-range c =
-    let b = c in
-    let r = b.args.root.now in
-    let e : reply b.args.sheet.now 0x77 r ≡ Reply.unknown = ap (reply b.args.sheet.now 0x77) (sym (append-nil r)) ∙ unasked (goal.at.returns-then-range c).Then-range [] in
-    same_support (ap (λ (x : Reply). (letters_told x).word) (sym e)) (ap (λ (x : Reply). (letters_told x).head) (sym e)) (sym (none_known (reply b.args.sheet.now) r _ (unasked (goal.at.returns-then-range c).Then-range))) b.requires.2
+    let r = c.args.root.now in
+    let e : reply c.args.sheet.now 0x77 r ≡ Reply.unknown = ap (reply c.args.sheet.now 0x77) (sym (append-nil r)) ∙ unasked (goal.at.returns-then-range c).Then-range [] in
+    same_support (ap (λ (x : Reply). (letters_told x).word) (sym e)) (ap (λ (x : Reply). (letters_told x).head) (sym e)) (sym (none_known (reply c.args.sheet.now) r _ (unasked (goal.at.returns-then-range c).Then-range))) c.requires.2
 
 -- the letters are those of the root
 own : (c : After-letters_in-letters) → let a = c.args in
@@ -37,23 +34,18 @@ own c = c.letters_in-letters.ensures
 
 pub returns-then-is_alone : goal.returns-then-is_alone
 returns-then-is_alone c =
-    let l = c in
-    let a = l in
-    let g = l in
-    let r = a.args.root.now in
+    let r = c.args.root.now in
     let alone = sym c.is_alone.ensures ∙ c.if-is_alone.true in
-    let few : g.range_of-range.result.hi ≤ g.range_of-range.result.lo + 1 = omega (arith, leb-true (g.range_of-range.result.hi - g.range_of-range.result.lo) 1 (and_left _ _ alone)) in
-    let some = has-reply _ _ (own (goal.at.returns-then-is_alone c).After-letters_in-letters) (and_right (leb (g.range_of-range.result.hi - g.range_of-range.result.lo) 1) _ alone) in
-    let e = own (goal.at.returns-then-is_alone c).After-letters_in-letters ∙ ap (λ (n : List ℕ). letters_told (reply a.args.sheet.now 0x77 n)) (append-nil r) in
+    let few : c.range_of-range.result.hi ≤ c.range_of-range.result.lo + 1 = omega (arith, leb-true (c.range_of-range.result.hi - c.range_of-range.result.lo) 1 (and_left _ _ alone)) in
+    let some = has-reply _ _ (own (goal.at.returns-then-is_alone c).After-letters_in-letters) (and_right (leb (c.range_of-range.result.hi - c.range_of-range.result.lo) 1) _ alone) in
+    let e = own (goal.at.returns-then-is_alone c).After-letters_in-letters ∙ ap (λ (n : List ℕ). letters_told (reply c.args.sheet.now 0x77 n)) (append-nil r) in
     same_support (ap (λ (x : Letters). x.word) e) (ap (λ (x : Letters). x.head) e)
-    (sym (alone_known (reply a.args.sheet.now) r
-    (λ q n. alone_begun a.args.sheet.now 0x77 r a.args.starts.now a.requires.0 g.range_of-range.result g.range_of-range.ensures few [] q (λ z. omega (arith, n, z)) some)))
-    a.requires.2
+    (sym (alone_known (reply c.args.sheet.now) r
+    (λ q n. alone_begun c.args.sheet.now 0x77 r c.args.starts.now c.requires.0 c.range_of-range.result c.range_of-range.ensures few [] q (λ z. omega (arith, n, z)) some)))
+    c.requires.2
 
 pub returns : goal.returns
 unfolding letters_for
 returns c =
-    let l = c in
-    let a = l in
-    let e = l.letters_in-letters.ensures ∙ ap (letters_for a.args.sheet.now) (append-nil a.args.root.now) in
-    same_support (ap (λ (x : Letters). x.word) e) (ap (λ (x : Letters). x.head) e) c.has_sibling-sibling.ensures a.requires.2
+    let e = c.letters_in-letters.ensures ∙ ap (letters_for c.args.sheet.now) (append-nil c.args.root.now) in
+    same_support (ap (λ (x : Letters). x.word) e) (ap (λ (x : Letters). x.head) e) c.has_sibling-sibling.ensures c.requires.2

@@ -13,9 +13,8 @@ use Rattle.corrected.proofs.entry.put_line.Goals.{In-At}
 told : (c : In-At) → let a = c.args in
     Opens (opening_of a.buffer.now a.used a.line.now) (take a.used a.buffer.now) a.line.now (At c.in-At.span)
 told c =
-    let f = c in
     let a = c.args in
-    subst (Opens (opening_of a.buffer.now a.used a.line.now) (take a.used a.buffer.now) a.line.now) c.in-At.is f.find_line-found.ensures
+    subst (Opens (opening_of a.buffer.now a.used a.line.now) (take a.used a.buffer.now) a.line.now) c.in-At.is c.find_line-found.ensures
 
 within : (c : In-At) → (c.in-At.span.to ≤ c.args.used) × (c.args.used ≤ length c.args.buffer.now)
 within c =
@@ -23,40 +22,33 @@ within c =
     (inside _ _ _ t.0 t.1 _ t.2, short _ _ _ t.0 t.1 _ t.2)
 
 pub overflow_add-size : goal.overflow_add-size
-overflow_add-size c = let f = c in omega (arith, (within (goal.at.overflow_add-size c).In-At).0, (within (goal.at.overflow_add-size c).In-At).1, (told (goal.at.overflow_add-size c).In-At).2.ordered, f.well_formed)
+overflow_add-size c = omega (arith, (within (goal.at.overflow_add-size c).In-At).0, (within (goal.at.overflow_add-size c).In-At).1, (told (goal.at.overflow_add-size c).In-At).2.ordered, c.well_formed)
 
 pub overflow_sub-size : goal.overflow_sub-size
-overflow_sub-size c = let f = c in omega (arith, (within (goal.at.overflow_sub-size c).In-At).0, (told (goal.at.overflow_sub-size c).In-At).2.ordered)
+overflow_sub-size c = omega (arith, (within (goal.at.overflow_sub-size c).In-At).0, (told (goal.at.overflow_sub-size c).In-At).2.ordered)
 
 pub overflow_add-size-in-At : goal.overflow_add-size-in-At
-overflow_add-size-in-At c = let f = c in omega (arith, (within (goal.at.overflow_add-size-in-At c).In-At).0, (within (goal.at.overflow_add-size-in-At c).In-At).1, (told (goal.at.overflow_add-size-in-At c).In-At).2.ordered, f.well_formed)
+overflow_add-size-in-At c = omega (arith, (within (goal.at.overflow_add-size-in-At c).In-At).0, (within (goal.at.overflow_add-size-in-At c).In-At).1, (told (goal.at.overflow_add-size-in-At c).In-At).2.ordered, c.well_formed)
 
 pub returns-then-buffer-size : goal.returns-then-buffer-size
 returns-then-buffer-size c = let t = told (goal.at.returns-then-buffer-size c).In-At in put-none _ _ _ t.0 t.1 _ t.2 c.if-buffer-size.true
 
 pub returns-then-size-gt-SHEET_BYTES : goal.returns-then-size-gt-SHEET_BYTES
-returns-then-size-gt-SHEET_BYTES c = let e = c in let t = told (goal.at.returns-then-size-gt-SHEET_BYTES c).In-At in put-over _ _ _ t.0 t.1 _ t.2 e.if-buffer-size.false c.if-size-gt-SHEET_BYTES.true
+returns-then-size-gt-SHEET_BYTES c = let t = told (goal.at.returns-then-size-gt-SHEET_BYTES c).In-At in put-over _ _ _ t.0 t.1 _ t.2 c.if-buffer-size.false c.if-size-gt-SHEET_BYTES.true
 
 pub replace-requires : goal.replace-requires
 replace-requires c =
-    let e = c in
-    let f = e in
     let k = (told (goal.at.replace-requires c).In-At).2.ordered in
     let i = within (goal.at.replace-requires c).In-At in
-    let r = e.if-buffer-size.false in
+    let r = c.if-buffer-size.false in
     (omega (arith, k), omega (arith, k, i.0), i.1, omega (arith, k, r))
 
 pub returns-in-Refused : goal.returns-in-Refused
 returns-in-Refused c =
-    let k = c in
-    let f = k in
-    let a = f.args in
-    put_refused _ _ _ _ (subst (Opens (opening_of a.buffer.now a.used a.line.now) (take a.used a.buffer.now) a.line.now) k.in-Refused.is f.find_line-found.ensures)
+    let a = c.args in
+    put_refused _ _ _ _ (subst (Opens (opening_of a.buffer.now a.used a.line.now) (take a.used a.buffer.now) a.line.now) c.in-Refused.is c.find_line-found.ensures)
 
 pub returns-else-size-gt-SHEET_BYTES : goal.returns-else-size-gt-SHEET_BYTES
 returns-else-size-gt-SHEET_BYTES c =
-    let p = c in
-    let d = p in
-    let e = d in
     let t = told (goal.at.returns-else-size-gt-SHEET_BYTES c).In-At in
-    put_done _ _ _ t.0 t.1 _ t.2 e.if-buffer-size.false d.if-size-gt-SHEET_BYTES.false _ p.replace.ensures
+    put_done _ _ _ t.0 t.1 _ t.2 c.if-buffer-size.false c.if-size-gt-SHEET_BYTES.false _ c.replace.ensures

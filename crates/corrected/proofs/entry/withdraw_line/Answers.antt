@@ -13,9 +13,8 @@ use Rattle.corrected.proofs.entry.withdraw_line.Goals.{In-At}
 told : (c : In-At) → let a = c.args in
     Opens (opening_of a.buffer.now a.used a.line.now) (take a.used a.buffer.now) a.line.now (At c.in-At.span)
 told c =
-    let f = c in
     let a = c.args in
-    subst (Opens (opening_of a.buffer.now a.used a.line.now) (take a.used a.buffer.now) a.line.now) c.in-At.is f.find_line-found.ensures
+    subst (Opens (opening_of a.buffer.now a.used a.line.now) (take a.used a.buffer.now) a.line.now) c.in-At.is c.find_line-found.ensures
 
 within : (c : In-At) → (c.in-At.span.to ≤ c.args.used) × (c.args.used ≤ length c.args.buffer.now)
 within c =
@@ -27,25 +26,19 @@ returns-then-to-from c = let t = told (goal.at.returns-then-to-from c).In-At in 
 
 pub replace-requires : goal.replace-requires
 replace-requires c =
-    let e = c in
-    let f = e in
     let k = (told (goal.at.replace-requires c).In-At).2.ordered in
     let i = within (goal.at.replace-requires c).In-At in
     (omega (arith, k), omega (arith, k, i.0), i.1, omega (arith, k, i.0, i.1))
 
 pub overflow_sub-result : goal.overflow_sub-result
-overflow_sub-result c = let e = c in (within (goal.at.overflow_sub-result c).In-At).0
+overflow_sub-result c = (within (goal.at.overflow_sub-result c).In-At).0
 
 pub returns-in-Refused : goal.returns-in-Refused
 returns-in-Refused c =
-    let k = c in
-    let f = k in
-    let a = f.args in
-    withdraw_refused _ _ _ _ (subst (Opens (opening_of a.buffer.now a.used a.line.now) (take a.used a.buffer.now) a.line.now) k.in-Refused.is f.find_line-found.ensures)
+    let a = c.args in
+    withdraw_refused _ _ _ _ (subst (Opens (opening_of a.buffer.now a.used a.line.now) (take a.used a.buffer.now) a.line.now) c.in-Refused.is c.find_line-found.ensures)
 
 pub returns-else-to-from : goal.returns-else-to-from
 returns-else-to-from c =
-    let p = c in
-    let e = p in
     let t = told (goal.at.returns-else-to-from c).In-At in
-    withdraw_done _ _ _ t.0 t.1 _ t.2 (omega (arith, e.if-to-from.false)) _ p.replace.ensures
+    withdraw_done _ _ _ t.0 t.1 _ t.2 (omega (arith, c.if-to-from.false)) _ c.replace.ensures

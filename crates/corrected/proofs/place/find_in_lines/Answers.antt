@@ -15,7 +15,7 @@ use Rattle.corrected.proofs.place.find_in_lines.Goals.{In-Single}
 -- what is known of the given line
 told : (c : In-Single) → let l = c.args.line.now in
     (is_single l ≡ true) × (c.in-Single.letter ≡ (entry_of l).letter) × (c.in-Single.name_end ≡ 3 + length (entry_of l).name)
-told c = let g = c in single_told g.args.line.now _ _ (sym c.in-Single.is ∙ g.read_given-given.ensures)
+told c = single_told c.args.line.now _ _ (sym c.in-Single.is ∙ c.read_given-given.ensures)
 
 pub slice_bounds-span_of-count : goal.slice_bounds-span_of-count
 slice_bounds-span_of-count c = omega (arith, (told (goal.at.slice_bounds-span_of-count c).In-Single).2)
@@ -27,11 +27,10 @@ pub slice_bounds-span_of-end : goal.slice_bounds-span_of-end
 slice_bounds-span_of-end c = let t = told (goal.at.slice_bounds-span_of-end c).In-Single in single_inside _ _ t.0 t.2
 
 pub returns-in-Other : goal.returns-in-Other
-returns-in-Other c = let g = c in other_told _ (sym c.in-Other.is ∙ g.read_given-given.ensures)
+returns-in-Other c = other_told _ (sym c.in-Other.is ∙ c.read_given-given.ensures)
 
 pub returns-in-Single : goal.returns-in-Single
 returns-in-Single c =
-    let g = c in
-    let a = g.args in
+    let a = c.args in
     let t = told (goal.at.returns-in-Single c).In-Single in
     (single_accepted _ t.0, single_written _ t.0, subst (λ (k : List ℕ). Spanned a.sheet.now k c.span_of.result) (single_key _ _ _ t.0 t.1 t.2) c.span_of.ensures)

@@ -32,13 +32,11 @@ slice_bounds-find_in_sheet-end c = sym (length-take-le _ _ c.if-buf-used.false)
 
 pub find_in_sheet-requires : goal.find_in_sheet-requires
 find_in_sheet-requires c =
-    let t = c in
-    let e = t in
-    let a = e.args in
-    few-room _ _ (omega (arith, t.if-used-le-SMALL_BYTES.true, length-take-le a.used a.buf.now e.if-buf-used.false)) (search rules)
+    let a = c.args in
+    few-room _ _ (omega (arith, c.if-used-le-SMALL_BYTES.true, length-take-le a.used a.buf.now c.if-buf-used.false)) (search rules)
 
 pub returns-then-used-le-SMALL_BYTES : goal.returns-then-used-le-SMALL_BYTES
-returns-then-used-le-SMALL_BYTES c = let f = c in opened (goal.at.returns-then-used-le-SMALL_BYTES c).Else-buf-used f.find_in_sheet.result f.find_in_sheet.ensures
+returns-then-used-le-SMALL_BYTES c = opened (goal.at.returns-then-used-le-SMALL_BYTES c).Else-buf-used c.find_in_sheet.result c.find_in_sheet.ensures
 
 pub slice_bounds-find_in_sheet-end-2 : goal.slice_bounds-find_in_sheet-end-2
 slice_bounds-find_in_sheet-end-2 c = sym (length-take-le _ _ c.if-buf-used.false)
@@ -47,4 +45,4 @@ pub find_in_sheet-requires-2 : goal.find_in_sheet-requires-2
 find_in_sheet-requires-2 c = roomy _ _ (search rules)
 
 pub returns : goal.returns
-returns c = let f = c in opened (goal.at.returns c).Else-buf-used f.find_in_sheet-2.result f.find_in_sheet-2.ensures
+returns c = opened (goal.at.returns c).Else-buf-used c.find_in_sheet-2.result c.find_in_sheet-2.ensures

@@ -19,18 +19,17 @@ abbrev place : Else-starts-i → ℕ
 place c = get_or c.args.starts.now c.range_of-range.result.lo 0
 
 form : (c : Else-starts-i) → is_form (drop (place c) c.args.sheet.now) ≡ true
-form c = let b = c in indexed-form b.args.sheet.now b.args.starts.now c.range_of-range.result.lo b.requires c.if-starts-i.false
+form c = indexed-form c.args.sheet.now c.args.starts.now c.range_of-range.result.lo c.requires c.if-starts-i.false
 
 -- how it stands to the key
-seen : (c : After-line_order-order) → let f = c in let a = f.args in
+seen : (c : After-line_order-order) → let a = c.args in
     c.line_order-order.result ≡ cmp (key (line_at a.sheet.now (place (up-Else-starts-i _ _ _ c.before.before.before.before.before)))) (key_of a.letter a.name.now)
 seen c =
-    let f = c in
-    let a = f.args in
+    let a = c.args in
     c.line_order-order.ensures ∙ ap (λ (n : List ℕ). cmp (key (line_at a.sheet.now (place (up-Else-starts-i _ _ _ c.before.before.before.before.before)))) (key_of a.letter n)) (append-nil a.name.now)
 
 pub returns-then-starts-i : goal.returns-then-starts-i
-returns-then-starts-i c = let r = c in let b = r in let a = b.args in span-end a.sheet.now a.starts.now a.letter a.name.now b.requires r.range_of-range.result r.range_of-range.ensures c.if-starts-i.true
+returns-then-starts-i c = let a = c.args in span-end a.sheet.now a.starts.now a.letter a.name.now c.requires c.range_of-range.result c.range_of-range.ensures c.if-starts-i.true
 
 pub overflow_cast-at : goal.overflow_cast-at
 overflow_cast-at c = omega (arith, c.shared_slice_known-4-1.given c.range_of-range.result.lo)
@@ -46,32 +45,20 @@ value_end-stop-requires c = (form (goal.at.value_end-stop-requires c).Else-start
 
 pub overflow_add-result : goal.overflow_add-result
 overflow_add-result c =
-    let f = c in
-    let b = f in
-    omega (arith, line-fits b.args.sheet.now (place (goal.at.overflow_add-result c).Else-starts-i) (form (goal.at.overflow_add-result c).Else-starts-i), c.value_end-stop.ensures, b.well_formed)
+    omega (arith, line-fits c.args.sheet.now (place (goal.at.overflow_add-result c).Else-starts-i) (form (goal.at.overflow_add-result c).Else-starts-i), c.value_end-stop.ensures, c.well_formed)
 
 pub returns-in-Equal : goal.returns-in-Equal
 returns-in-Equal c =
-    let v = c in
-    let o = v in
-    let f = o in
-    let b = f in
-    let a = b.args in
-    span-held a.sheet.now a.starts.now a.letter a.name.now b.requires _ f.range_of-range.ensures f.if-starts-i.false (place (goal.at.returns-in-Equal c).Else-starts-i) refl _ (seen (goal.at.returns-in-Equal c).After-line_order-order) v.in-Equal.is _
+    let a = c.args in
+    span-held a.sheet.now a.starts.now a.letter a.name.now c.requires _ c.range_of-range.ensures c.if-starts-i.false (place (goal.at.returns-in-Equal c).Else-starts-i) refl _ (seen (goal.at.returns-in-Equal c).After-line_order-order) c.in-Equal.is _
     (omega (arith, c.value_end-stop.ensures, written-length (line_at a.sheet.now (place (goal.at.returns-in-Equal c).Else-starts-i))))
 
 pub returns-in-Less : goal.returns-in-Less
 returns-in-Less c =
-    let o = c in
-    let f = o in
-    let b = f in
-    let a = b.args in
-    absurd (span_never a.sheet.now a.starts.now a.letter a.name.now b.requires _ f.range_of-range.ensures f.if-starts-i.false (place (goal.at.returns-in-Less c).Else-starts-i) refl _ (seen (goal.at.returns-in-Less c).After-line_order-order) c.in-Less.is)
+    let a = c.args in
+    absurd (span_never a.sheet.now a.starts.now a.letter a.name.now c.requires _ c.range_of-range.ensures c.if-starts-i.false (place (goal.at.returns-in-Less c).Else-starts-i) refl _ (seen (goal.at.returns-in-Less c).After-line_order-order) c.in-Less.is)
 
 pub returns-in-Greater : goal.returns-in-Greater
 returns-in-Greater c =
-    let o = c in
-    let f = o in
-    let b = f in
-    let a = b.args in
-    span-lone a.sheet.now a.starts.now a.letter a.name.now b.requires _ f.range_of-range.ensures f.if-starts-i.false (place (goal.at.returns-in-Greater c).Else-starts-i) refl _ (seen (goal.at.returns-in-Greater c).After-line_order-order) c.in-Greater.is
+    let a = c.args in
+    span-lone a.sheet.now a.starts.now a.letter a.name.now c.requires _ c.range_of-range.ensures c.if-starts-i.false (place (goal.at.returns-in-Greater c).Else-starts-i) refl _ (seen (goal.at.returns-in-Greater c).After-line_order-order) c.in-Greater.is

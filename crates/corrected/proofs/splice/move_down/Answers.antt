@@ -29,15 +29,13 @@ loop-k-smaller c = omega arith
 
 pub loop-k-preserved : goal.loop-k-preserved
 loop-k-preserved c =
-    let d = c in
-    (omega arith, simp length-set d.loop-k.invariant.1, down_turn _ _ _ _ _ d.loop-k.invariant.2 d.requires.0 (omega arith))
+    (omega arith, simp length-set c.loop-k.invariant.1, down_turn _ _ _ _ _ c.loop-k.invariant.2 c.requires.0 (omega arith))
 
 pub shape_of-buf : goal.shape_of-buf
 shape_of-buf c = c.loop-k.invariant.1
 
 pub returns : goal.returns
 returns c =
-    let d = c in
-    let a = d.args in
-    let e : d.loop-k.k ≡ a.n = omega arith in
-    d.loop-k.invariant.2 ∙ ap (paste a.buf.now a.to (drop a.from a.buf.now)) e
+    let a = c.args in
+    let e : c.loop-k.k ≡ a.n = omega arith in
+    c.loop-k.invariant.2 ∙ ap (paste a.buf.now a.to (drop a.from a.buf.now)) e

@@ -33,20 +33,18 @@ loop-k-smaller c = omega arith
 
 pub loop-k-preserved : goal.loop-k-preserved
 loop-k-preserved c =
-    let d = c in
-    (omega arith, simp length-set d.loop-k.invariant.1, up_turn _ _ _ _ _ d.loop-k.k _ (omega arith) d.loop-k.invariant.0 d.loop-k.invariant.2 d.requires.0 d.requires.1)
+    (omega arith, simp length-set c.loop-k.invariant.1, up_turn _ _ _ _ _ c.loop-k.k _ (omega arith) c.loop-k.invariant.0 c.loop-k.invariant.2 c.requires.0 c.requires.1)
 
 pub shape_of-buf : goal.shape_of-buf
 shape_of-buf c = c.loop-k.invariant.1
 
 pub returns : goal.returns
 returns c =
-    let d = c in
-    let a = d.args in
-    let x : a.to + d.loop-k.k ≡ a.to = omega arith in
-    let y : a.from + d.loop-k.k ≡ a.from = omega arith in
-    let z : a.n - d.loop-k.k ≡ a.n = omega arith in
-    d.loop-k.invariant.2
-    ∙ ap (λ (i : ℕ). paste a.buf.now i (drop (a.from + d.loop-k.k) a.buf.now) (a.n - d.loop-k.k)) x
-    ∙ ap (λ (i : ℕ). paste a.buf.now a.to (drop i a.buf.now) (a.n - d.loop-k.k)) y
+    let a = c.args in
+    let x : a.to + c.loop-k.k ≡ a.to = omega arith in
+    let y : a.from + c.loop-k.k ≡ a.from = omega arith in
+    let z : a.n - c.loop-k.k ≡ a.n = omega arith in
+    c.loop-k.invariant.2
+    ∙ ap (λ (i : ℕ). paste a.buf.now i (drop (a.from + c.loop-k.k) a.buf.now) (a.n - c.loop-k.k)) x
+    ∙ ap (λ (i : ℕ). paste a.buf.now a.to (drop i a.buf.now) (a.n - c.loop-k.k)) y
     ∙ ap (paste a.buf.now a.to (drop a.from a.buf.now)) z

@@ -13,7 +13,7 @@ use Rattle.decomposition.proofs.entries.decompose_in.Goals.{After-prepare_word-i
 
 -- what is said of the word is said of word and sheet
 said : (c : After-prepare_word-inputs) (x : Inputs) → c.prepare_word-inputs.result ≡ x → let a = c.args in x ≡ inputs_of a.word.now a.sheet.now
-said c x e = let b = c in sym e ∙ c.prepare_word-inputs.ensures ∙ said-indexed b.args.word.now b.args.sheet.now b.requires.accepted
+said c x e = sym e ∙ c.prepare_word-inputs.ensures ∙ said-indexed c.args.word.now c.args.sheet.now c.requires.accepted
 
 -- an answer is its parts
 given : {m n : Morpheme} → m ≡ n → ◌≡◌ {A = MorphemeAnswer} (record { inputs = Accepted; morpheme = m }) (record { inputs = Accepted; morpheme = n })
@@ -21,21 +21,16 @@ given q = cc
 
 pub decompose_word-requires : goal.decompose_word-requires
 decompose_word-requires c =
-    let k = c in
-    let b = k in
-    (b.requires, word-short b.args.word.now (word-said b.args.word.now k.prepare_word-inputs.result k.prepare_word-inputs.ensures c.in-Accepted.is))
+    (c.requires, word-short c.args.word.now (word-said c.args.word.now c.prepare_word-inputs.result c.prepare_word-inputs.ensures c.in-Accepted.is))
 
 pub returns-in-Refused : goal.returns-in-Refused
 unfolding morpheme_answer
 returns-in-Refused c =
-    let k = c in
-    let a = k.args in
+    let a = c.args in
     c.refused.ensures ∙ ap (λ (x : Inputs). morpheme_if x a.word.now a.sheet.now) (said (goal.at.returns-in-Refused c).After-prepare_word-inputs _ c.in-Refused.is)
 
 pub returns-in-Accepted : goal.returns-in-Accepted
 unfolding morpheme_answer
 returns-in-Accepted c =
-    let e = c in
-    let k = e in
-    let a = k.args in
-    given c.decompose_word.ensures ∙ ap (λ (x : Inputs). morpheme_if x a.word.now a.sheet.now) (said (goal.at.returns-in-Accepted c).After-prepare_word-inputs _ e.in-Accepted.is)
+    let a = c.args in
+    given c.decompose_word.ensures ∙ ap (λ (x : Inputs). morpheme_if x a.word.now a.sheet.now) (said (goal.at.returns-in-Accepted c).After-prepare_word-inputs _ c.in-Accepted.is)

@@ -18,7 +18,7 @@ inside c = rw prefix_form_count (omega arith)
 
 -- the form of this turn
 formed : (c : After-word_rest-rest) → c.row.result.now ≡ get_or prefix_forms c.loop-k.k []
-formed c = let d = c in c.row.ensures ∙ laid-row d.requires.1 d.loop-k.k (inside (up-In-loop-k _ _ _ _ _ c.before.before.before))
+formed c = c.row.ensures ∙ laid-row c.requires.1 c.loop-k.k (inside (up-In-loop-k _ _ _ _ _ c.before.before.before))
 
 pub loop-k-init : goal.loop-k-init
 loop-k-init c = (omega arith, refl)
@@ -31,11 +31,9 @@ row-requires c = laid-asks c.requires.1 c.loop-k.k (inside (goal.at.row-requires
 
 pub returns-in-From : goal.returns-in-From
 returns-in-From c =
-    let u = c in
-    let d = u in
-    let a = d.args in
-    let q = sym c.in-From.is ∙ u.word_rest-rest.ensures in
-    (sym (d.loop-k.invariant.1 ∙ front-found (reply a.sheet.now) a.word.now prefix_forms d.loop-k.k _ c.in-From.n (inside (goal.at.returns-in-From c).In-loop-k) (formed (goal.at.returns-in-From c).After-word_rest-rest) q), word-inside (reply a.sheet.now) a.word.now _ c.in-From.n q)
+    let a = c.args in
+    let q = sym c.in-From.is ∙ c.word_rest-rest.ensures in
+    (sym (c.loop-k.invariant.1 ∙ front-found (reply a.sheet.now) a.word.now prefix_forms c.loop-k.k _ c.in-From.n (inside (goal.at.returns-in-From c).In-loop-k) (formed (goal.at.returns-in-From c).After-word_rest-rest) q), word-inside (reply a.sheet.now) a.word.now _ c.in-From.n q)
 
 pub overflow_add-k : goal.overflow_add-k
 overflow_add-k c = omega arith
@@ -45,10 +43,8 @@ loop-k-smaller c = omega arith
 
 pub loop-k-preserved : goal.loop-k-preserved
 loop-k-preserved c =
-    let u = c in
-    let d = u in
-    let a = d.args in
-    (omega arith, d.loop-k.invariant.1 ∙ front_next (reply a.sheet.now) a.word.now prefix_forms d.loop-k.k _ (inside (goal.at.loop-k-preserved c).In-loop-k) (formed (goal.at.loop-k-preserved c).After-word_rest-rest) (sym c.in-Nothing.is ∙ u.word_rest-rest.ensures))
+    let a = c.args in
+    (omega arith, c.loop-k.invariant.1 ∙ front_next (reply a.sheet.now) a.word.now prefix_forms c.loop-k.k _ (inside (goal.at.loop-k-preserved c).In-loop-k) (formed (goal.at.loop-k-preserved c).After-word_rest-rest) (sym c.in-Nothing.is ∙ c.word_rest-rest.ensures))
 
 pub returns : goal.returns
 returns c =

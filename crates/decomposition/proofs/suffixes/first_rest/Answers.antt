@@ -20,16 +20,16 @@ pub slice_bounds-is_taken-end : goal.slice_bounds-is_taken-end
 slice_bounds-is_taken-end c = sym (length-take-le _ _ (inside (goal.at.slice_bounds-is_taken-end c).After-open_rests-rests).plain_in)
 
 pub returns-then-is_taken : goal.returns-then-is_taken
-returns-then-is_taken c = let o = c in record { says = first_plain _ _ _ _ _ o.open_rests-rests.ensures c.if-count-eq0.false (sym c.is_taken.ensures ∙ c.if-is_taken.true); within = (inside (goal.at.returns-then-is_taken c).After-open_rests-rests).plain_in }
+returns-then-is_taken c = record { says = first_plain _ _ _ _ _ c.open_rests-rests.ensures c.if-count-eq0.false (sym c.is_taken.ensures ∙ c.if-is_taken.true); within = (inside (goal.at.returns-then-is_taken c).After-open_rests-rests).plain_in }
 
 pub returns-then-count-eq1 : goal.returns-then-count-eq1
-returns-then-count-eq1 c = let t = c in record { says = first_one _ _ _ _ _ t.open_rests-rests.ensures c.if-count-eq1.true (sym t.is_taken.ensures ∙ c.if-is_taken.false); within = tt }
+returns-then-count-eq1 c = record { says = first_one _ _ _ _ _ c.open_rests-rests.ensures c.if-count-eq1.true (sym c.is_taken.ensures ∙ c.if-is_taken.false); within = tt }
 
 pub slice_bounds-is_taken-end-2 : goal.slice_bounds-is_taken-end-2
 slice_bounds-is_taken-end-2 c = sym (length-take-le _ _ (inside (goal.at.slice_bounds-is_taken-end-2 c).After-open_rests-rests).shared_in)
 
 pub returns-then-is_taken-2 : goal.returns-then-is_taken-2
-returns-then-is_taken-2 c = let e = c in let t = e in let o = t in record { says = first-shared _ _ _ _ _ o.open_rests-rests.ensures t.if-count-eq0.false e.if-count-eq1.false (sym t.is_taken.ensures ∙ e.if-is_taken.false) (sym c.is_taken-2.ensures ∙ c.if-is_taken-2.true); within = (inside (goal.at.returns-then-is_taken-2 c).After-open_rests-rests).shared_in }
+returns-then-is_taken-2 c = record { says = first-shared _ _ _ _ _ c.open_rests-rests.ensures c.if-count-eq0.false c.if-count-eq1.false (sym c.is_taken.ensures ∙ c.if-is_taken.false) (sym c.is_taken-2.ensures ∙ c.if-is_taken-2.true); within = (inside (goal.at.returns-then-is_taken-2 c).After-open_rests-rests).shared_in }
 
 pub returns : goal.returns
-returns c = let e = c in let t = e in let o = t in record { says = first_neither _ _ _ _ _ o.open_rests-rests.ensures t.if-count-eq0.false e.if-count-eq1.false (sym t.is_taken.ensures ∙ e.if-is_taken.false) (sym c.is_taken-2.ensures ∙ c.if-is_taken-2.false); within = tt }
+returns c = record { says = first_neither _ _ _ _ _ c.open_rests-rests.ensures c.if-count-eq0.false c.if-count-eq1.false (sym c.is_taken.ensures ∙ c.if-is_taken.false) (sym c.is_taken-2.ensures ∙ c.if-is_taken-2.false); within = tt }

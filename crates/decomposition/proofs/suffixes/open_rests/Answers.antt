@@ -7,7 +7,7 @@ use Rattle.decomposition.proofs.suffixes.open_rests.Goals as goal
 use Rattle.decomposition.proofs.suffixes.open_rests.Goals.{After-bars}
 
 pub returns-then-rests-eq0 : goal.returns-then-rests-eq0
-returns-then-rests-eq0 c = let r = c in let a = r.args in open_none (reply a.sheet.now) a.piece.now a.suffix.now r.suffix_rests-rests.result r.suffix_rests-rests.ensures c.if-rests-eq0.true
+returns-then-rests-eq0 c = let a = c.args in open_none (reply a.sheet.now) a.piece.now a.suffix.now c.suffix_rests-rests.result c.suffix_rests-rests.ensures c.if-rests-eq0.true
 
 -- whether the rule keeps the piece
 barred : (c : After-bars) →
@@ -21,4 +21,4 @@ pub returns-then-bars : goal.returns-then-bars
 returns-then-bars c = open_kept _ _ _ (sym (barred (goal.at.returns-then-bars c).After-bars) ∙ c.if-bars.true)
 
 pub returns : goal.returns
-returns c = let r = c in open_free _ _ _ r.suffix_rests-rests.result (sym (barred (goal.at.returns c).After-bars) ∙ c.if-bars.false) r.suffix_rests-rests.ensures
+returns c = open_free _ _ _ c.suffix_rests-rests.result (sym (barred (goal.at.returns c).After-bars) ∙ c.if-bars.false) c.suffix_rests-rests.ensures

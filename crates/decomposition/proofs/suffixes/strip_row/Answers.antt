@@ -10,10 +10,10 @@ pub slice_bounds-first_rest-end : goal.slice_bounds-first_rest-end
 slice_bounds-first_rest-end c = sym (length-take-le _ _ c.requires.2.inside)
 
 pub pushed-requires : goal.pushed-requires
-pushed-requires c = let a = c in omega (arith, a.requires.1, a.requires.2.few)
+pushed-requires c = omega (arith, c.requires.1, c.requires.2.few)
 
 pub returns-in-Nothing : goal.returns-in-Nothing
-returns-in-Nothing c = let f = c in let a = f in row-none (reply a.args.sheet.now) a.args.least a.args.k a.args.piece.now a.args.suffix.now a.args.s a.requires.2 a.requires.1 (rw c.in-Nothing.is at f.first_rest-left.ensures)
+returns-in-Nothing c = row-none (reply c.args.sheet.now) c.args.least c.args.k c.args.piece.now c.args.suffix.now c.args.s c.requires.2 c.requires.1 (rw c.in-Nothing.is at c.first_rest-left.ensures)
 
 pub returns-in-Whole : goal.returns-in-Whole
-returns-in-Whole c = let l = c in let f = l in let a = f in row-some (reply a.args.sheet.now) a.args.least a.args.k a.args.piece.now a.args.suffix.now a.args.s a.requires.2 a.requires.1 l.in-Whole.n c.pushed.result (rw l.in-Whole.is at f.first_rest-left.ensures) c.pushed.ensures.0 c.pushed.ensures.1 c.pushed.ensures.2
+returns-in-Whole c = row-some (reply c.args.sheet.now) c.args.least c.args.k c.args.piece.now c.args.suffix.now c.args.s c.requires.2 c.requires.1 c.in-Whole.n c.pushed.result (rw c.in-Whole.is at c.first_rest-left.ensures) c.pushed.ensures.0 c.pushed.ensures.1 c.pushed.ensures.2

@@ -31,7 +31,7 @@ pub row-requires : goal.row-requires
 row-requires c = laid-asks c.requires.1 c.loop-k.k (inside (goal.at.row-requires c).In-loop-k)
 
 pub strip_row-s-requires : goal.strip_row-s-requires
-strip_row-s-requires c = let d = c in (d.requires.0, d.loop-k-test.true, d.loop-k.invariant.1)
+strip_row-s-requires c = (c.requires.0, c.loop-k-test.true, c.loop-k.invariant.1)
 
 pub overflow_add-k : goal.overflow_add-k
 overflow_add-k c = omega arith
@@ -41,9 +41,8 @@ loop-k-smaller c = omega arith
 
 pub loop-k-preserved : goal.loop-k-preserved
 loop-k-preserved c =
-    let d = c in
-    let a = d.args in
-    (omega arith, c.strip_row-s.ensures.1, d.loop-k.invariant.2 ∙ rows_turn (reply a.sheet.now) a.least suffixes d.loop-k.k _ _ _ (inside (goal.at.loop-k-preserved c).In-loop-k) (c.row.ensures ∙ laid-row d.requires.1 d.loop-k.k (inside (goal.at.loop-k-preserved c).In-loop-k)) c.strip_row-s.ensures.0)
+    let a = c.args in
+    (omega arith, c.strip_row-s.ensures.1, c.loop-k.invariant.2 ∙ rows_turn (reply a.sheet.now) a.least suffixes c.loop-k.k _ _ _ (inside (goal.at.loop-k-preserved c).In-loop-k) (c.row.ensures ∙ laid-row c.requires.1 c.loop-k.k (inside (goal.at.loop-k-preserved c).In-loop-k)) c.strip_row-s.ensures.0)
 
 pub returns : goal.returns
 returns c =

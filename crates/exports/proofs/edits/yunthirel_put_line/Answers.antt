@@ -8,4 +8,4 @@ pub written_code-requires : goal.written_code-requires
 written_code-requires c = put_small _ _ _ _ c.put_line.ensures.0
 
 pub returns : goal.returns
-returns c = let w = c in (c.written_code.ensures ∙ ap written_code w.put_line.ensures.0, w.put_line.ensures.1)
+returns c = (c.written_code.ensures ∙ ap written_code c.put_line.ensures.0, c.put_line.ensures.1)

@@ -13,9 +13,8 @@ use Rattle.exports.proofs.parts.put_candidates.Goals as goal
 
 pub loop-i-init : goal.loop-i-init
 loop-i-init c =
-    let b = c in
-    let l : length b.args.list.rows ≡ 16 = b.well_formed.0.1.1.0.1.0.1 in
-    (omega arith, omega (arith, b.requires), refl, store_none candidate_bytes 33 (λ _. refl) b.args.list.rows b.args.out.now)
+    let l : length c.args.list.rows ≡ 16 = c.well_formed.0.1.1.0.1.0.1 in
+    (omega arith, omega (arith, c.requires), refl, store_none candidate_bytes 33 (λ _. refl) c.args.list.rows c.args.out.now)
 
 pub offset_bounds-list-i : goal.offset_bounds-list-i
 offset_bounds-list-i c = omega arith
@@ -43,14 +42,12 @@ loop-i-smaller c = omega arith
 
 pub loop-i-preserved : goal.loop-i-preserved
 loop-i-preserved c =
-    let p = c in
-    let d = p in
-    let a = d.args in
-    let l = d.loop-i in (
+    let a = c.args in
+    let l = c.loop-i in (
       omega arith,
       l.invariant.1,
       search rules,
-      store_next candidate_bytes 33 (λ _. refl) a.list.rows l.i no_candidate a.out.now l.out _ (omega arith) l.invariant.3 p.put_candidate.ensures,
+      store_next candidate_bytes 33 (λ _. refl) a.list.rows l.i no_candidate a.out.now l.out _ (omega arith) l.invariant.3 c.put_candidate.ensures,
     )
 
 pub shape_of-out : goal.shape_of-out

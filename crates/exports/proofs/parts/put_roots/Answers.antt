@@ -21,16 +21,12 @@ overflow_mul-n c = omega (arith, c.requires)
 
 pub returns-then-out-n : goal.returns-then-out-n
 returns-then-out-n c =
-    let b = c in
-    let q = rows_short candidate_bytes 33 b.args.list.count (rows_of b.args.list) b.args.out.now (counted (goal.at.returns-then-out-n c).Start) c.if-out-n.true in
+    let q = rows_short candidate_bytes 33 c.args.list.count (rows_of c.args.list) c.args.out.now (counted (goal.at.returns-then-out-n c).Start) c.if-out-n.true in
     (c.refusal_code.ensures ∙ q.0, q.1)
 
 pub overflow_mul-result : goal.overflow_mul-result
-overflow_mul-result c = let b = c in omega (arith, b.requires)
+overflow_mul-result c = omega (arith, c.requires)
 
 pub returns : goal.returns
 returns c =
-    let d = c in
-    let e = d in
-    let b = e in
-    rows_long candidate_bytes 33 b.args.list.count (rows_of b.args.list) b.args.out.now (counted (goal.at.returns c).Start) _ e.if-out-n.false d.put_candidates.ensures
+    rows_long candidate_bytes 33 c.args.list.count (rows_of c.args.list) c.args.out.now (counted (goal.at.returns c).Start) _ c.if-out-n.false c.put_candidates.ensures

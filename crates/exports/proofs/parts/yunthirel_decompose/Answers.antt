@@ -7,16 +7,14 @@ use Rattle.exports.proofs.Put.{answer_inputs, decompose_is, both}
 use Rattle.exports.proofs.parts.yunthirel_decompose.Goals as goal
 
 pub refusal_code-requires : goal.refusal_code-requires
-refusal_code-requires c = let d = c in let a = c.args in inputs_refused a.word.now a.sheet.now _ _ (answer_inputs a.word.now a.sheet.now d.decompose-answer.result d.decompose-answer.ensures) c.in-Refused.is
+refusal_code-requires c = let a = c.args in inputs_refused a.word.now a.sheet.now _ _ (answer_inputs a.word.now a.sheet.now c.decompose-answer.result c.decompose-answer.ensures) c.in-Refused.is
 
 pub returns-in-Refused : goal.returns-in-Refused
 returns-in-Refused c =
-    let d = c in
     let a = c.args in
-    both (ap (λ (i : Inputs). decompose_if i d.decompose-answer.result.morpheme a.out.now) (sym c.in-Refused.is) ∙ decompose_is a.word.now a.sheet.now a.out.now d.decompose-answer.result d.decompose-answer.ensures) (c.refusal_code.ensures, refl)
+    both (ap (λ (i : Inputs). decompose_if i c.decompose-answer.result.morpheme a.out.now) (sym c.in-Refused.is) ∙ decompose_is a.word.now a.sheet.now a.out.now c.decompose-answer.result c.decompose-answer.ensures) (c.refusal_code.ensures, refl)
 
 pub returns-in-Accepted : goal.returns-in-Accepted
 returns-in-Accepted c =
-    let d = c in
     let a = c.args in
-    both (ap (λ (i : Inputs). decompose_if i d.decompose-answer.result.morpheme a.out.now) (sym c.in-Accepted.is) ∙ decompose_is a.word.now a.sheet.now a.out.now d.decompose-answer.result d.decompose-answer.ensures) c.put_morpheme.ensures
+    both (ap (λ (i : Inputs). decompose_if i c.decompose-answer.result.morpheme a.out.now) (sym c.in-Accepted.is) ∙ decompose_is a.word.now a.sheet.now a.out.now c.decompose-answer.result c.decompose-answer.ensures) c.put_morpheme.ensures

@@ -8,4 +8,4 @@ pub written_code-requires : goal.written_code-requires
 written_code-requires c = report_small _ _ _ c.write_references.ensures.0
 
 pub returns : goal.returns
-returns c = let w = c in (c.written_code.ensures ∙ ap written_code w.write_references.ensures.0, w.write_references.ensures.1)
+returns c = (c.written_code.ensures ∙ ap written_code c.write_references.ensures.0, c.write_references.ensures.1)

@@ -14,18 +14,12 @@ accepted c = sym (accepted-both _ _ c.requires.0 c.requires.1.accepted)
 
 pub returns-then-n-gt-LIMIT : goal.returns-then-n-gt-LIMIT
 returns-then-n-gt-LIMIT c =
-    let k = c in
-    let b = k in
-    let a = b.args in
-    let q = filled-over a.word.now a.sheet.now a.out.now _ _ (accepted (goal.at.returns-then-n-gt-LIMIT c).Start) k.keep_readings-tally.ensures.0 c.if-n-gt-LIMIT.true in
+    let a = c.args in
+    let q = filled-over a.word.now a.sheet.now a.out.now _ _ (accepted (goal.at.returns-then-n-gt-LIMIT c).Start) c.keep_readings-tally.ensures.0 c.if-n-gt-LIMIT.true in
     (c.refusal_code.ensures ∙ ap (λ (f : Filled). f.code) q, ap (λ (f : Filled). f.buffer) q)
 
 pub returns : goal.returns
 returns c =
-    let p = c in
-    let o = p in
-    let k = o in
-    let b = k in
-    let a = b.args in
-    let q = filled-rows a.word.now a.sheet.now a.out.now _ _ (accepted (goal.at.returns c).Start) k.keep_readings-tally.ensures.0 o.if-n-gt-LIMIT.false in
-    (p.put_rows.ensures.0 ∙ ap (λ (f : Filled). f.code) q, p.put_rows.ensures.1 ∙ ap (λ (f : Filled). f.buffer) q)
+    let a = c.args in
+    let q = filled-rows a.word.now a.sheet.now a.out.now _ _ (accepted (goal.at.returns c).Start) c.keep_readings-tally.ensures.0 c.if-n-gt-LIMIT.false in
+    (c.put_rows.ensures.0 ∙ ap (λ (f : Filled). f.code) q, c.put_rows.ensures.1 ∙ ap (λ (f : Filled). f.buffer) q)

@@ -21,16 +21,14 @@ overflow_mul-n c = omega (arith, c.requires.2)
 
 pub returns-then-out-n : goal.returns-then-out-n
 returns-then-out-n c =
-    let b = c in
-    let a = b.args in
-    let q = rows_short row_bytes row_width a.n (rows_for a.word.now a.sheet.now a.kept.now a.n) a.out.now (rows-counted a.word.now a.sheet.now a.kept.now a.n b.requires.2) c.if-out-n.true in
+    let a = c.args in
+    let q = rows_short row_bytes row_width a.n (rows_for a.word.now a.sheet.now a.kept.now a.n) a.out.now (rows-counted a.word.now a.sheet.now a.kept.now a.n c.requires.2) c.if-out-n.true in
     (c.refusal_code.ensures ∙ q.0, q.1)
 
 pub loop-i-init : goal.loop-i-init
 loop-i-init c =
-    let b = c in
-    let a = b.args in
-    (omega arith, b.requires.2, refl, store_none row_bytes row_width (λ _. refl) (rows_for a.word.now a.sheet.now a.kept.now a.n) a.out.now, c.if-out-n.false, b.requires.0, b.requires.1)
+    let a = c.args in
+    (omega arith, c.requires.2, refl, store_none row_bytes row_width (λ _. refl) (rows_for a.word.now a.sheet.now a.kept.now a.n) a.out.now, c.if-out-n.false, c.requires.0, c.requires.1)
 
 pub row_at-requires : goal.row_at-requires
 row_at-requires c = let k = c.loop-i.invariant in (k.6, omega (arith, k.1, c.loop-i-test.true))
@@ -58,22 +56,16 @@ loop-i-smaller c = omega arith
 
 pub loop-i-preserved : goal.loop-i-preserved
 loop-i-preserved c =
-    let p = c in
-    let y = p in
-    let t = y in
-    let g = t in
-    let d = g in
-    let b = d in
-    let a = b.args in
-    let l = d.loop-i in
-    let h = g.loop-i-test.true in
-    let e = y.classify_root-r.ensures ∙ ap (classified (reply a.sheet.now) a.word.now) t.row_at.ensures ∙ sym (row_is a.word.now a.sheet.now a.kept.now a.n l.invariant.1 l.i h) in (
+    let a = c.args in
+    let l = c.loop-i in
+    let h = c.loop-i-test.true in
+    let e = c.classify_root-r.ensures ∙ ap (classified (reply a.sheet.now) a.word.now) c.row_at.ensures ∙ sym (row_is a.word.now a.sheet.now a.kept.now a.n l.invariant.1 l.i h) in (
       omega arith,
       l.invariant.1,
       search rules,
       store_next row_bytes row_width (λ _. refl) (rows_for a.word.now a.sheet.now a.kept.now a.n) l.i no_row a.out.now l.out _
           (omega (arith, rows-counted a.word.now a.sheet.now a.kept.now a.n l.invariant.1, h)) l.invariant.3
-          (p.put_row.ensures ∙ ap (λ (r : Classified). row_bytes r ++ drop row_width (mid_of (row_width * l.i) (length l.out - row_width * l.i) l.out)) e),
+          (c.put_row.ensures ∙ ap (λ (r : Classified). row_bytes r ++ drop row_width (mid_of (row_width * l.i) (length l.out - row_width * l.i) l.out)) e),
       l.invariant.4,
       l.invariant.5,
       l.invariant.6,
@@ -88,10 +80,9 @@ shape_of-out c = c.loop-i.invariant.2
 pub returns : goal.returns
 returns c =
     let l = c.loop-i in
-    let b = c in
-    let a = b.args in
+    let a = c.args in
     let e : l.i ≡ a.n = omega (arith, l.invariant.0, c.loop-i-test.false) in
-    let m = rows-counted a.word.now a.sheet.now a.kept.now a.n b.requires.2 in
+    let m = rows-counted a.word.now a.sheet.now a.kept.now a.n c.requires.2 in
     rows_long row_bytes row_width a.n (rows_for a.word.now a.sheet.now a.kept.now a.n) a.out.now m _ l.invariant.4
     (l.invariant.3 ∙ ap (λ (k : ℕ). each row_bytes (take k (rows_for a.word.now a.sheet.now a.kept.now a.n)) ++ drop (row_width * k) a.out.now) e
     ∙ ap (λ (x : List Classified). each row_bytes x ++ drop (row_width * a.n) a.out.now) (take_all a.n (rows_for a.word.now a.sheet.now a.kept.now a.n) (omega (arith, m))))

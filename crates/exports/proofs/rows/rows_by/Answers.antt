@@ -20,24 +20,18 @@ module _ (c : After-prepare_sheet-ready) where
 
 pub refusal_code-requires : goal.refusal_code-requires
 refusal_code-requires c =
-    let i = c in
-    let k = i in
-    refused-placed (w (goal.at.refusal_code-requires c).After-prepare_sheet-ready) (s (goal.at.refusal_code-requires c).After-prepare_sheet-ready) _ (sym (said-refused (w (goal.at.refusal_code-requires c).After-prepare_sheet-ready) (s (goal.at.refusal_code-requires c).After-prepare_sheet-ready) k.prepare_sheet-ready.result.inputs _ _ k.prepare_sheet-ready.ensures.said i.in-Refused.is c.first_refusal.ensures))
+    refused-placed (w (goal.at.refusal_code-requires c).After-prepare_sheet-ready) (s (goal.at.refusal_code-requires c).After-prepare_sheet-ready) _ (sym (said-refused (w (goal.at.refusal_code-requires c).After-prepare_sheet-ready) (s (goal.at.refusal_code-requires c).After-prepare_sheet-ready) c.prepare_sheet-ready.result.inputs _ _ c.prepare_sheet-ready.ensures.said c.in-Refused.is c.first_refusal.ensures))
 
 pub slice_bounds-rows_in-end : goal.slice_bounds-rows_in-end
-slice_bounds-rows_in-end c = let k = c in (indexed (s (goal.at.slice_bounds-rows_in-end c).After-prepare_sheet-ready) _ _ k.prepare_sheet-ready.result k.prepare_sheet-ready.ensures c.in-Accepted.is).0
+slice_bounds-rows_in-end c = (indexed (s (goal.at.slice_bounds-rows_in-end c).After-prepare_sheet-ready) _ _ c.prepare_sheet-ready.result c.prepare_sheet-ready.ensures c.in-Accepted.is).0
 
 pub slice_bounds-rows_in-end-in-Accepted : goal.slice_bounds-rows_in-end-in-Accepted
 slice_bounds-rows_in-end-in-Accepted c =
-    let e = c in
-    let k = e in
-    sym (length-take-le _ _ (indexed (s (goal.at.slice_bounds-rows_in-end-in-Accepted c).After-prepare_sheet-ready) _ _ k.prepare_sheet-ready.result k.prepare_sheet-ready.ensures e.in-Accepted.is).0)
+    sym (length-take-le _ _ (indexed (s (goal.at.slice_bounds-rows_in-end-in-Accepted c).After-prepare_sheet-ready) _ _ c.prepare_sheet-ready.result c.prepare_sheet-ready.ensures c.in-Accepted.is).0)
 
 pub rows_in-requires : goal.rows_in-requires
 rows_in-requires c =
-    let e = c in
-    let k = e in
-    (indexed (s (goal.at.rows_in-requires c).After-prepare_sheet-ready) _ _ k.prepare_sheet-ready.result k.prepare_sheet-ready.ensures e.in-Accepted.is).1
+    (indexed (s (goal.at.rows_in-requires c).After-prepare_sheet-ready) _ _ c.prepare_sheet-ready.result c.prepare_sheet-ready.ensures c.in-Accepted.is).1
 
 pub returns-in-Refused : goal.returns-in-Refused
 returns-in-Refused c =

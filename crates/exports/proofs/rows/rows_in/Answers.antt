@@ -24,19 +24,13 @@ module _ (c : After-prepare_word-inputs) where
 
 pub refusal_code-requires : goal.refusal_code-requires
 refusal_code-requires c =
-    let i = c in
-    let k = i in
-    refused-placed (w (goal.at.refusal_code-requires c).After-prepare_word-inputs) (s (goal.at.refusal_code-requires c).After-prepare_word-inputs) _ (sym (said (goal.at.refusal_code-requires c).After-prepare_word-inputs _ i.in-Refused.is))
+    refused-placed (w (goal.at.refusal_code-requires c).After-prepare_word-inputs) (s (goal.at.refusal_code-requires c).After-prepare_word-inputs) _ (sym (said (goal.at.refusal_code-requires c).After-prepare_word-inputs _ c.in-Refused.is))
 
 pub accepted_rows-requires : goal.accepted_rows-requires
 accepted_rows-requires c =
-    let e = c in
-    let k = e in
-    (word-said (w (goal.at.accepted_rows-requires c).After-prepare_word-inputs) k.prepare_word-inputs.result k.prepare_word-inputs.ensures e.in-Accepted.is, k.requires)
+    (word-said (w (goal.at.accepted_rows-requires c).After-prepare_word-inputs) c.prepare_word-inputs.result c.prepare_word-inputs.ensures c.in-Accepted.is, c.requires)
 
 pub returns-in-Refused : goal.returns-in-Refused
 returns-in-Refused c =
-    let i = c in
-    let k = i in
-    let q = filled-refused (w (goal.at.returns-in-Refused c).After-prepare_word-inputs) (s (goal.at.returns-in-Refused c).After-prepare_word-inputs) k.args.out.now _ (said (goal.at.returns-in-Refused c).After-prepare_word-inputs _ i.in-Refused.is) in
+    let q = filled-refused (w (goal.at.returns-in-Refused c).After-prepare_word-inputs) (s (goal.at.returns-in-Refused c).After-prepare_word-inputs) c.args.out.now _ (said (goal.at.returns-in-Refused c).After-prepare_word-inputs _ c.in-Refused.is) in
     (c.refusal_code.ensures ∙ ap (λ (f : Filled). f.code) q, ap (λ (f : Filled). f.buffer) q)

@@ -8,4 +8,4 @@ pub written_code-requires : goal.written_code-requires
 written_code-requires c = tokens_small _ _ _ c.tokenize.ensures.0
 
 pub returns : goal.returns
-returns c = let w = c in (c.written_code.ensures ∙ ap written_code w.tokenize.ensures.0, w.tokenize.ensures.1)
+returns c = (c.written_code.ensures ∙ ap written_code c.tokenize.ensures.0, c.tokenize.ensures.1)

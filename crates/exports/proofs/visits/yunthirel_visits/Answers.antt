@@ -7,15 +7,13 @@ use Rattle.exports.proofs.visits.yunthirel_visits.Goals as goal
 
 pub refusal_code-requires : goal.refusal_code-requires
 refusal_code-requires c =
-    let d = c in
-    let a = d.args in
-    visits_told a.word.now a.sheet.now _ _ d.visits_of-answer.ensures c.in-Refused.is
+    let a = c.args in
+    visits_told a.word.now a.sheet.now _ _ c.visits_of-answer.ensures c.in-Refused.is
 
 pub overflow_mul-result : goal.overflow_mul-result
 overflow_mul-result c =
-    let d = c in
-    let a = d.args in
-    let n = visits_told a.word.now a.sheet.now _ _ d.visits_of-answer.ensures c.in-Given.is in
+    let a = c.args in
+    let n = visits_told a.word.now a.sheet.now _ _ c.visits_of-answer.ensures c.in-Given.is in
     omega (arith, n)
 
 pub returns-in-Refused : goal.returns-in-Refused

@@ -8,9 +8,8 @@ use Rattle.filled.proofs.candidates.planned.Goals as goal
 
 pub returns-then-room-n : goal.returns-then-room-n
 returns-then-room-n c =
-    let k = c in
-    let a = k.lookup_root_candidates-answer.ensures in
-    let n = k.row_count-n.ensures in
+    let a = c.lookup_root_candidates-answer.ensures in
+    let n = c.row_count-n.ensures in
     (is_too_short _ _ _ _ (sym c.in-Accepted.is ∙ a.said) (n.0 ∙ ap (length {A = RootCandidate}) a.listed) c.if-room-n.true, refl, omega arith, omega arith)
 
 pub returns-in-Refused : goal.returns-in-Refused
@@ -20,7 +19,6 @@ returns-in-Refused c =
 
 pub returns-else-room-n : goal.returns-else-room-n
 returns-else-room-n c =
-    let k = c in
-    let a = k.lookup_root_candidates-answer.ensures in
-    let n = k.row_count-n.ensures in
+    let a = c.lookup_root_candidates-answer.ensures in
+    let n = c.row_count-n.ensures in
     (is_written _ _ _ _ (sym c.in-Accepted.is ∙ a.said) (n.0 ∙ ap (length {A = RootCandidate}) a.listed) c.if-room-n.false, n.1 ∙ a.listed, c.if-room-n.false, n.2)

@@ -8,17 +8,14 @@ use Rattle.listing.proofs.entry.print_answer.Goals as goal
 
 pub returns-then-input-gt65536 : goal.returns-then-input-gt65536
 returns-then-input-gt65536 c =
-    let t = c in
-    answer_as (printed_long _ t.if-input-gt65536.true) c.write_refused.ensures (number-line-size 4 (omega arith))
+    answer_as (printed_long _ c.if-input-gt65536.true) c.write_refused.ensures (number-line-size 4 (omega arith))
 
 pub slice_bounds-print_readings-end : goal.slice_bounds-print_readings-end
 slice_bounds-print_readings-end c = sym (length-take-le c.find-end.result c.args.input.now c.find-end.ensures.1)
 
 pub returns : goal.returns
 returns c =
-    let p = c in
-    let f = p in
-    let a = f.args in
+    let a = c.args in
     let i = a.input.now in
-    let r = p.print_readings.ensures in
-    answer_as (printed-parts i _ _ f.if-input-gt65536.false (word_end i _ f.find-end.ensures.0) p.after.ensures) r.0 r.1
+    let r = c.print_readings.ensures in
+    answer_as (printed-parts i _ _ c.if-input-gt65536.false (word_end i _ c.find-end.ensures.0) c.after.ensures) r.0 r.1

@@ -5,15 +5,11 @@ use Rattle.listing.proofs.entry.print_readings.Goals as goal
 
 pub returns-in-Refused : goal.returns-in-Refused
 returns-in-Refused c =
-    let p = c in
-    let d = p in
-    let a = d.args in
-    prints-refused a.word.now a.sheet.now _ (sym d.analyze_affixes-analysis.ensures.0 ∙ p.in-Refused.is) p.write_refused.ensures
+    let a = c.args in
+    prints-refused a.word.now a.sheet.now _ (sym c.analyze_affixes-analysis.ensures.0 ∙ c.in-Refused.is) c.write_refused.ensures
 
 pub returns-in-Listed : goal.returns-in-Listed
 returns-in-Listed c =
-    let p = c in
-    let d = p in
-    let a = d.args in
-    prints-listed a.word.now a.sheet.now _ (sym d.analyze_affixes-analysis.ensures.0 ∙ p.in-Listed.is) d.analyze_affixes-analysis.ensures.1
-    p.write_listing.ensures.0 p.write_listing.ensures.1
+    let a = c.args in
+    prints-listed a.word.now a.sheet.now _ (sym c.analyze_affixes-analysis.ensures.0 ∙ c.in-Listed.is) c.analyze_affixes-analysis.ensures.1
+    c.write_listing.ensures.0 c.write_listing.ensures.1

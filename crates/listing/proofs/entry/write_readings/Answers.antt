@@ -5,14 +5,11 @@ use Rattle.listing.proofs.entry.write_readings.Goals as goal
 
 pub returns-in-Refused : goal.returns-in-Refused
 returns-in-Refused c =
-    let d = c in
-    let a = d.args in
-    gives_refused a.word.now a.sheet.now a.out.now _ (sym d.analyze_affixes-analysis.ensures.0 ∙ c.in-Refused.is)
+    let a = c.args in
+    gives_refused a.word.now a.sheet.now a.out.now _ (sym c.analyze_affixes-analysis.ensures.0 ∙ c.in-Refused.is)
 
 pub returns-in-Listed : goal.returns-in-Listed
 returns-in-Listed c =
-    let p = c in
-    let said = p in
-    let a = said.args in
-    gives_listed a.word.now a.sheet.now _ _ _ _ (sym said.analyze_affixes-analysis.ensures.0 ∙ p.in-Listed.is) said.analyze_affixes-analysis.ensures.1
-    p.write_listing.ensures.0 p.write_listing.ensures.1
+    let a = c.args in
+    gives_listed a.word.now a.sheet.now _ _ _ _ (sym c.analyze_affixes-analysis.ensures.0 ∙ c.in-Listed.is) c.analyze_affixes-analysis.ensures.1
+    c.write_listing.ensures.0 c.write_listing.ensures.1

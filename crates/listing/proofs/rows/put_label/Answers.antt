@@ -13,7 +13,5 @@ returns-then-starts-row c =
 
 pub returns : goal.returns
 returns c =
-    let d = c in
-    let w = d in
-    let a = w.args in
-    put_as (d.row.ensures ∙ ap (row_at a.bytes.now a.starts.now) w.wide8-row.ensures ∙ sym (label-row a.bytes.now a.starts.now a.k (omega arith))) c.put.ensures
+    let a = c.args in
+    put_as (c.row.ensures ∙ ap (row_at a.bytes.now a.starts.now) c.wide8-row.ensures ∙ sym (label-row a.bytes.now a.starts.now a.k (omega arith))) c.put.ensures

@@ -16,22 +16,16 @@ use Rattle.listing.proofs.rows.put_listing.Goals as goal
 pub returns : goal.returns
 unfolding listing_text
 returns c =
-    let p4 = c in
-    let p3 = p4 in
-    let p2 = p3 in
-    let p1 = p2 in
-    let n = p1 in
-    let b = n in
-    let w = b.args.word.now in
-    let rs = b.args.list.rows in
-    let l : length rs ≡ 64 = b.well_formed.1.1.1.0.1.1.0.1.0.1 in
-    let e : take n.least-n.result rs ≡ take b.args.list.count rs =
-    ap (λ (m : ℕ). take m rs) n.least-n.ensures ∙ sym (take_least b.args.list.count 64 rs l) in
-    let k : n.least-n.result ≡ length (take b.args.list.count rs) = sym (length-take-le n.least-n.result rs (omega arith)) ∙ ap length e in (
-      put_both p1.put-a.ensures
-          (put_both (put_as (ap decimal k) p2.put_decimal-b.ensures)
-          (put_both p3.put-c.ensures (put_as (ap (row_texts b.args.word.now) e) p4.put_rows.ensures.0))),
-      λ h. listing-size w (take b.args.list.count rs) n.least-n.result (omega arith) k (subst (λ (l : List Classified). length (row_texts w l) ≤ n.least-n.result * row_room) e (p4.put_rows.ensures.1 h)),
+    let w = c.args.word.now in
+    let rs = c.args.list.rows in
+    let l : length rs ≡ 64 = c.well_formed.1.1.1.0.1.1.0.1.0.1 in
+    let e : take c.least-n.result rs ≡ take c.args.list.count rs =
+    ap (λ (m : ℕ). take m rs) c.least-n.ensures ∙ sym (take_least c.args.list.count 64 rs l) in
+    let k : c.least-n.result ≡ length (take c.args.list.count rs) = sym (length-take-le c.least-n.result rs (omega arith)) ∙ ap length e in (
+      put_both c.put-a.ensures
+          (put_both (put_as (ap decimal k) c.put_decimal-b.ensures)
+          (put_both c.put-c.ensures (put_as (ap (row_texts c.args.word.now) e) c.put_rows.ensures.0))),
+      λ h. listing-size w (take c.args.list.count rs) c.least-n.result (omega arith) k (subst (λ (l : List Classified). length (row_texts w l) ≤ c.least-n.result * row_room) e (c.put_rows.ensures.1 h)),
     )
 
 pub shape_of-out : goal.shape_of-out

@@ -7,10 +7,8 @@ use Rattle.listing.proofs.rows.put_row.Goals as goal
 pub returns : goal.returns
 unfolding row_text
 returns c =
-    let e = c in
-    let p = e in
-    let a = p.args in
-    (put_both p.put_reading-behind.ensures.0 e.put_end.ensures, λ h. row-size a.word.now a.row (p.put_reading-behind.ensures.1 h))
+    let a = c.args in
+    (put_both c.put_reading-behind.ensures.0 c.put_end.ensures, λ h. row-size a.word.now a.row (c.put_reading-behind.ensures.1 h))
 
 pub shape_of-out : goal.shape_of-out
 shape_of-out c = (returns c).0.size

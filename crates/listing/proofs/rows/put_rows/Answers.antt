@@ -11,9 +11,8 @@ use Rattle.listing.proofs.rows.put_rows.Goals as goal
 
 pub loop-i-init : goal.loop-i-init
 loop-i-init c =
-    let b = c in
-    let l : length b.args.list.rows ≡ 64 = b.well_formed.1.1.1.1.1.1.1.0.1.1.0.1.0.1 in
-    (omega arith, omega (arith, b.requires.2), upto-none _ _ _ (omega arith), λ _. omega arith)
+    let l : length c.args.list.rows ≡ 64 = c.well_formed.1.1.1.1.1.1.1.0.1.1.0.1.0.1 in
+    (omega arith, omega (arith, c.requires.2), upto-none _ _ _ (omega arith), λ _. omega arith)
 
 pub offset_bounds-list-i : goal.offset_bounds-list-i
 offset_bounds-list-i c = omega (arith, c.requires.2)
@@ -32,15 +31,13 @@ loop-i-smaller c = omega arith
 
 pub loop-i-preserved : goal.loop-i-preserved
 loop-i-preserved c =
-    let p = c in
-    let d = p in
-    let a = d.args in
-    let l = d.loop-i in
+    let a = c.args in
+    let l = c.loop-i in
     let e = scan_next a.list.rows a.n no_row l.invariant.1 l.i (omega arith) in (
       omega arith,
       l.invariant.1,
-      upto-more l.invariant.2 p.put_row-next.ensures.0 (ap (row_texts a.word.now) e),
-      λ h. rows_turn a.word.now l.i _ _ (l.invariant.3 h) _ _ e (p.put_row-next.ensures.1 h),
+      upto-more l.invariant.2 c.put_row-next.ensures.0 (ap (row_texts a.word.now) e),
+      λ h. rows_turn a.word.now l.i _ _ (l.invariant.3 h) _ _ e (c.put_row-next.ensures.1 h),
     )
 
 pub shape_of-out : goal.shape_of-out
@@ -48,7 +45,6 @@ shape_of-out c = c.loop-i.invariant.2.wrote.size
 
 pub returns : goal.returns
 returns c =
-    let d = c in
-    let a = d.args in
-    let e = scan-end a.list.rows a.n no_row d.loop-i.invariant.1 d.loop-i.i c.loop-i-test.false in
-    (upto_all d.loop-i.invariant.2 (ap (row_texts a.word.now) e), λ h. rows_end a.word.now d.loop-i.i _ _ (d.loop-i.invariant.3 h) a.n d.loop-i.invariant.0 e)
+    let a = c.args in
+    let e = scan-end a.list.rows a.n no_row c.loop-i.invariant.1 c.loop-i.i c.loop-i-test.false in
+    (upto_all c.loop-i.invariant.2 (ap (row_texts a.word.now) e), λ h. rows_end a.word.now c.loop-i.i _ _ (c.loop-i.invariant.3 h) a.n c.loop-i.invariant.0 e)

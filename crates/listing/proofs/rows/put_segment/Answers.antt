@@ -13,13 +13,6 @@ put_label-label-requires c = (laid-asks c.requires 0 (omega (arith, affix_count)
 pub returns : goal.returns
 unfolding segment_text
 returns c =
-    let p6 = c in
-    let p5 = p6 in
-    let p4 = p5 in
-    let p3 = p4 in
-    let p2 = p3 in
-    let p1 = p2 in
-    let b = p1 in
-    put_both p1.put-open.ensures
-    (put_both (put_as (laid-label b.requires b.args.s.label) p2.put_label-label.ensures)
-    (put_both p3.put-space.ensures (put_both p4.put_kind-named.ensures (put_both p5.put_mark-marked.ensures p6.put.ensures))))
+    put_both c.put-open.ensures
+    (put_both (put_as (laid-label c.requires c.args.s.label) c.put_label-label.ensures)
+    (put_both c.put-space.ensures (put_both c.put_kind-named.ensures (put_both c.put_mark-marked.ensures c.put.ensures))))

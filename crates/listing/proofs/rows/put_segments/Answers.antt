@@ -35,14 +35,10 @@ loop-i-smaller c = omega arith
 
 pub loop-i-preserved : goal.loop-i-preserved
 loop-i-preserved c =
-    let p2 = c in
-    let p1 = p2 in
-    let d = p1 in
-    let b = d in
-    let l = d.loop-i in (
+    let l = c.loop-i in (
       omega arith,
       l.invariant.1,
-      parted_turn segment_text b.args.row.segments _ l.invariant.1 l.i no_segment (omega arith) l.invariant.2 p1.put_gap-behind.ensures p2.put_segment-next.ensures,
+      parted_turn segment_text c.args.row.segments _ l.invariant.1 l.i no_segment (omega arith) l.invariant.2 c.put_gap-behind.ensures c.put_segment-next.ensures,
     )
 
 pub shape_of-out : goal.shape_of-out
@@ -50,8 +46,5 @@ shape_of-out c = c.loop-i.invariant.2.wrote.size
 
 pub returns : goal.returns
 returns c =
-    let d = c in
-    let w = d in
-    let b = w in
     let l = places (goal.at.returns c).Start in
-    parted_all segment_text b.args.row.segments _ d.loop-i.invariant.1 b.args.row.suffix_count d.loop-i.i (omega arith) c.loop-i-test.false d.loop-i.invariant.2
+    parted_all segment_text c.args.row.segments _ c.loop-i.invariant.1 c.args.row.suffix_count c.loop-i.i (omega arith) c.loop-i-test.false c.loop-i.invariant.2

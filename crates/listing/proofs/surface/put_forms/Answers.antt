@@ -34,13 +34,10 @@ loop-i-smaller c = omega arith
 
 pub loop-i-preserved : goal.loop-i-preserved
 loop-i-preserved c =
-    let p = c in
-    let d = p in
-    let b = d in
-    let l = d.loop-i in (
+    let l = c.loop-i in (
       omega arith,
       l.invariant.1,
-      row_turn form_of b.args.row.prefixes _ l.invariant.1 l.i 0 (omega arith) l.invariant.2 (put_as (laid-label b.requires _) p.put_label-next.ensures),
+      row_turn form_of c.args.row.prefixes _ l.invariant.1 l.i 0 (omega arith) l.invariant.2 (put_as (laid-label c.requires _) c.put_label-next.ensures),
     )
 
 pub shape_of-out : goal.shape_of-out
@@ -48,8 +45,5 @@ shape_of-out c = c.loop-i.invariant.2.wrote.size
 
 pub returns : goal.returns
 returns c =
-    let d = c in
-    let w = d in
-    let b = w in
     let l = places (goal.at.returns c).Start in
-    row_all form_of b.args.row.prefixes _ d.loop-i.invariant.1 b.args.row.prefix_count d.loop-i.i (omega arith) c.loop-i-test.false d.loop-i.invariant.2
+    row_all form_of c.args.row.prefixes _ c.loop-i.invariant.1 c.args.row.prefix_count c.loop-i.i (omega arith) c.loop-i-test.false c.loop-i.invariant.2

@@ -8,6 +8,4 @@ returns-then-out-size c = written-not c.put_surface-size.ensures c.if-out-size.t
 
 pub returns : goal.returns
 returns c =
-    let p = c in
-    let e = p in
-    written-whole e.put_surface-size.ensures e.if-out-size.false (omega arith) p.put_surface.ensures
+    written-whole c.put_surface-size.ensures c.if-out-size.false (omega arith) c.put_surface.ensures

@@ -37,35 +37,23 @@ written-shared s t from b e f =
     take_all (length t - from) (drop from t) (omega (arith, length-drop from t)) ∙ ap (λ (k : ℕ). drop k t) f ∙ ap (λ (x : List ℕ). drop (first_length x) x) e ∙ rw b refl
 
 -- the text of the row that was found
-found : (c : After-row-text) → let b = c in c.row-text.result.now ≡ text_of b.args.s
+found : (c : After-row-text) → c.row-text.result.now ≡ text_of c.args.s
 found c =
-    let e = c in
-    let w = e in
-    let b = w in
-    c.row-text.ensures ∙ ap (row_at b.args.texts.now b.args.cuts.now) w.wide8-k.ensures
-    ∙ sym (label-row b.args.texts.now b.args.cuts.now b.args.s.label (omega (arith, w.wide8-k.ensures, e.if-cuts-k.false)))
-    ∙ laid-label b.requires b.args.s.label
+    c.row-text.ensures ∙ ap (row_at c.args.texts.now c.args.cuts.now) c.wide8-k.ensures
+    ∙ sym (label-row c.args.texts.now c.args.cuts.now c.args.s.label (omega (arith, c.wide8-k.ensures, c.if-cuts-k.false)))
+    ∙ laid-label c.requires c.args.s.label
 
 pub returns-then-cuts-k : goal.returns-then-cuts-k
 returns-then-cuts-k c =
-    let t = c in
-    let w = t in
-    let b = w in
-    written_none b.args.s (sym (laid-label b.requires b.args.s.label) ∙ no_label b.args.texts.now b.args.cuts.now b.args.s.label (omega (arith, w.wide8-k.ensures, t.if-cuts-k.true)))
+    written_none c.args.s (sym (laid-label c.requires c.args.s.label) ∙ no_label c.args.texts.now c.args.cuts.now c.args.s.label (omega (arith, c.wide8-k.ensures, c.if-cuts-k.true)))
 
 pub row-text-requires : goal.row-text-requires
 row-text-requires c = ((laid-asks c.requires 0 (omega (arith, affix_count))).0, c.if-cuts-k.false)
 
 pub returns-then-not-s : goal.returns-then-not-s
 returns-then-not-s c =
-    let r = c in
-    let b = r in
-    written-plain b.args.s r.row-text.result.now (not-true b.args.s.shared c.if-not-s.true) (found (goal.at.returns-then-not-s c).After-row-text)
+    written-plain c.args.s c.row-text.result.now (not-true c.args.s.shared c.if-not-s.true) (found (goal.at.returns-then-not-s c).After-row-text)
 
 pub returns : goal.returns
 returns c =
-    let l = c in
-    let e = l in
-    let r = e in
-    let b = r in
-    written-shared b.args.s r.row-text.result.now l.first_char_len-from.result (not-false b.args.s.shared e.if-not-s.false) (found (goal.at.returns c).After-row-text) l.first_char_len-from.ensures.0
+    written-shared c.args.s c.row-text.result.now c.first_char_len-from.result (not-false c.args.s.shared c.if-not-s.false) (found (goal.at.returns c).After-row-text) c.first_char_len-from.ensures.0

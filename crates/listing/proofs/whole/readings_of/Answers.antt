@@ -6,12 +6,10 @@ use Rattle.listing.proofs.whole.readings_of.Goals as goal
 
 pub returns-in-Wrote : goal.returns-in-Wrote
 returns-in-Wrote c =
-    let p = c in
-    let a = p.args in
-    whole (readings_text a.word.now a.sheet.now) a.out.now _ _ (omega (arith, p.print_readings-written.ensures.1)) p.print_readings-written.ensures.0 _ c.in-Wrote.is
+    let a = c.args in
+    whole (readings_text a.word.now a.sheet.now) a.out.now _ _ (omega (arith, c.print_readings-written.ensures.1)) c.print_readings-written.ensures.0 _ c.in-Wrote.is
 
 pub returns-in-Refused : goal.returns-in-Refused
 returns-in-Refused c =
-    let p = c in
-    let a = p.args in
-    absurd (never_short (readings_text a.word.now a.sheet.now) a.out.now _ _ (omega (arith, p.print_readings-written.ensures.1)) p.print_readings-written.ensures.0 _ c.in-Refused.is)
+    let a = c.args in
+    absurd (never_short (readings_text a.word.now a.sheet.now) a.out.now _ _ (omega (arith, c.print_readings-written.ensures.1)) c.print_readings-written.ensures.0 _ c.in-Refused.is)

@@ -18,22 +18,15 @@ value c =
 pub returns-then-not-v : goal.returns-then-not-v
 unfolding kind_for
 returns-then-not-v c =
-    let v = c in
-    let a = v.args in
+    let a = c.args in
     ap kind_told (unread a.sheet.now 0x6B a.name.now _ (value (goal.at.returns-then-not-v c).After-value_of-v) (not-true _ c.if-not-v.true))
 
 pub returns-then-same : goal.returns-then-same
 returns-then-same c =
-    let e = c in
-    let i = e in
-    let v = i in
-    let a = v.args in
-    kind_read a.sheet.now a.name.now _ (value (goal.at.returns-then-same c).After-value_of-v) (not-false _ i.if-not-v.false) _ _ e.same.ensures c.if-same.true
+    let a = c.args in
+    kind_read a.sheet.now a.name.now _ (value (goal.at.returns-then-same c).After-value_of-v) (not-false _ c.if-not-v.false) _ _ c.same.ensures c.if-same.true
 
 pub returns-else-same : goal.returns-else-same
 returns-else-same c =
-    let e = c in
-    let i = e in
-    let v = i in
-    let a = v.args in
-    kind_read a.sheet.now a.name.now _ (value (goal.at.returns-else-same c).After-value_of-v) (not-false _ i.if-not-v.false) _ _ e.same.ensures c.if-same.false
+    let a = c.args in
+    kind_read a.sheet.now a.name.now _ (value (goal.at.returns-else-same c).After-value_of-v) (not-false _ c.if-not-v.false) _ _ c.same.ensures c.if-same.false

@@ -11,15 +11,12 @@ use Rattle.lookup.proofs.answers.letters_at.Goals as goal
 
 pub returns-then-not-v : goal.returns-then-not-v
 returns-then-not-v c =
-    let b = c in
-    ap (λ (f : Bool). letters_told (pick f (Reply.told (take b.args.v.len (drop b.args.v.at b.args.sheet.now))) Reply.unknown)) (sym (not-true b.args.v.found c.if-not-v.true))
+    ap (λ (f : Bool). letters_told (pick f (Reply.told (take c.args.v.len (drop c.args.v.at c.args.sheet.now))) Reply.unknown)) (sym (not-true c.args.v.found c.if-not-v.true))
 
 pub returns : goal.returns
 returns c =
-    let i = c in
-    let b = i in
-    let v = b.args.v in
+    let v = c.args.v in
     let p : v.at + v.len - v.at ≡ v.len = omega arith in
     c.read_letters.ensures
-    ∙ ap (λ (x : ℕ). letters_told (Reply.told (take x (drop v.at b.args.sheet.now)))) p
-    ∙ ap (λ (f : Bool). letters_told (pick f (Reply.told (take v.len (drop v.at b.args.sheet.now))) Reply.unknown)) (sym (not-false v.found i.if-not-v.false))
+    ∙ ap (λ (x : ℕ). letters_told (Reply.told (take x (drop v.at c.args.sheet.now)))) p
+    ∙ ap (λ (f : Bool). letters_told (pick f (Reply.told (take v.len (drop v.at c.args.sheet.now))) Reply.unknown)) (sym (not-false v.found c.if-not-v.false))

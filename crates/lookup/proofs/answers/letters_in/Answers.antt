@@ -14,8 +14,6 @@ letters_at-requires c = c.value_at.ensures.1
 pub returns : goal.returns
 unfolding letters_for
 returns c =
-    let v = c in
-    let s = v in
-    let a = s.args in
-    let k = parts.value_of a.sheet.now 0x77 (a.p.now ++ a.q.now) s.seek_in-line.result _ s.seek_in-line.ensures v.value_at.ensures.0 v.value_at.ensures.1 in
+    let a = c.args in
+    let k = parts.value_of a.sheet.now 0x77 (a.p.now ++ a.q.now) c.seek_in-line.result _ c.seek_in-line.ensures c.value_at.ensures.0 c.value_at.ensures.1 in
     c.letters_at.ensures ∙ ap letters_told k.reads

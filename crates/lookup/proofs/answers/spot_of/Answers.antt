@@ -39,7 +39,6 @@ overflow_sub-len c = omega (arith, c.name_end-end.ensures)
 
 pub returns : goal.returns
 returns c =
-    let k = c in
-    let a = k.args in
+    let a = c.args in
     let e = c.name_end-end.ensures in
-    name_of a.sheet.now 0x77 (a.p.now ++ a.q.now) _ _ (line (goal.at.returns c).In-At) (name-spot a.sheet.now k.in-At.at _ e) (omega (arith, room (goal.at.returns c).In-At, e))
+    name_of a.sheet.now 0x77 (a.p.now ++ a.q.now) _ _ (line (goal.at.returns c).In-At) (name-spot a.sheet.now c.in-At.at _ e) (omega (arith, room (goal.at.returns c).In-At, e))

@@ -13,12 +13,11 @@ use Rattle.lookup.proofs.answers.value_at.Goals.{In-At}
 
 pub returns-in_default : goal.returns-in_default
 returns-in_default c =
-    let b = c in
-    (ap (value_spot b.args.sheet.now) (sym c.in_default.is), omega arith)
+    (ap (value_spot c.args.sheet.now) (sym c.in_default.is), omega arith)
 
 -- the line found
 line : (c : In-At) → let a = c.args in FormAt a.sheet.now (At c.in-At.at)
-line c = let b = c in subst (FormAt b.args.sheet.now) c.in-At.is b.requires
+line c = subst (FormAt c.args.sheet.now) c.in-At.is c.requires
 
 room : (c : In-At) → let a = c.args in value_end a.sheet.now c.in-At.at + 3 ≤ length a.sheet.now
 room c = let a = c.args in line-fits a.sheet.now c.in-At.at (line c)
@@ -36,11 +35,8 @@ pub overflow_sub-len : goal.overflow_sub-len
 overflow_sub-len c = omega (arith, c.name_end-end.ensures, c.value_end-to.ensures)
 
 pub returns : goal.returns
-returns c =
-    let n = c in
-    let k = n in
-    let b = k in (
-      value-spot b.args.sheet.now k.in-At.at n.name_end-end.result n.name_end-end.ensures c.value_end-to.result c.value_end-to.ensures
-          ∙ ap (value_spot b.args.sheet.now) (sym k.in-At.is),
-      omega (arith, room (goal.at.returns c).In-At, n.name_end-end.ensures, c.value_end-to.ensures),
-    )
+returns c = (
+  value-spot c.args.sheet.now c.in-At.at c.name_end-end.result c.name_end-end.ensures c.value_end-to.result c.value_end-to.ensures
+      ∙ ap (value_spot c.args.sheet.now) (sym c.in-At.is),
+  omega (arith, room (goal.at.returns c).In-At, c.name_end-end.ensures, c.value_end-to.ensures),
+)

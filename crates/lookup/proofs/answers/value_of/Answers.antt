@@ -7,5 +7,4 @@ value_at-requires c = parts.form_at _ _ _ c.seek-search.result.found c.seek-sear
 
 pub returns : goal.returns
 returns c =
-    let s = c in
-    parts.value_of _ _ _ s.seek-search.result.found _ s.seek-search.ensures.0 c.value_at.ensures.0 c.value_at.ensures.1
+    parts.value_of _ _ _ c.seek-search.result.found _ c.seek-search.ensures.0 c.value_at.ensures.0 c.value_at.ensures.1

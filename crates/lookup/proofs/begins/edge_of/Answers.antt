@@ -48,10 +48,8 @@ bounds-starts-mid c = omega arith
 
 pub head_order-o-requires : goal.head_order-o-requires
 head_order-o-requires c =
-    let d = c in
-    let a = d in
-    ap (λ (x : ℕ). is_form (drop x a.args.sheet.now)) c.wide-at.ensures
-    ∙ indexed-form a.args.sheet.now a.args.starts.now (d.loop-lo.lo + (d.loop-lo.hi - d.loop-lo.lo) / 2) a.requires (omega (arith, c.loop-lo-test.true, d.loop-lo.invariant.1, d.loop-lo.invariant.2))
+    ap (λ (x : ℕ). is_form (drop x c.args.sheet.now)) c.wide-at.ensures
+    ∙ indexed-form c.args.sheet.now c.args.starts.now (c.loop-lo.lo + (c.loop-lo.hi - c.loop-lo.lo) / 2) c.requires (omega (arith, c.loop-lo-test.true, c.loop-lo.invariant.1, c.loop-lo.invariant.2))
 
 pub overflow_add-lo : goal.overflow_add-lo
 overflow_add-lo c = omega arith
@@ -61,8 +59,7 @@ loop-lo-smaller-in-Less c = omega arith
 
 pub loop-lo-preserved-in-Less : goal.loop-lo-preserved-in-Less
 loop-lo-preserved-in-Less c =
-    let h = c in
-    let v = h.loop-lo.invariant in
+    let v = c.loop-lo.invariant in
     (omega arith, v.1, v.2, (λ p. after_middle (goal.at.loop-lo-preserved-in-Less c).After-head_order-o Less c.in-Less.is), v.4, v.5)
 
 pub loop-lo-smaller-in-Equal : goal.loop-lo-smaller-in-Equal
@@ -70,8 +67,7 @@ loop-lo-smaller-in-Equal c = omega arith
 
 pub loop-lo-preserved-in-Equal : goal.loop-lo-preserved-in-Equal
 loop-lo-preserved-in-Equal c =
-    let h = c in
-    let v = h.loop-lo.invariant in
+    let v = c.loop-lo.invariant in
     (omega arith, omega (arith, v.1), v.2, v.3, (λ p f. let q : Less ≡ Equal = sym f ∙ seen (goal.at.loop-lo-preserved-in-Equal c).After-head_order-o Equal c.in-Equal.is in let z : ◌≡◌ {A = ℕ} 0 1 = cc in absurd (omega arith)), v.5)
 
 pub loop-lo-smaller : goal.loop-lo-smaller
@@ -79,16 +75,14 @@ loop-lo-smaller c = omega arith
 
 pub loop-lo-preserved : goal.loop-lo-preserved
 loop-lo-preserved c =
-    let h = c in
-    let v = h.loop-lo.invariant in
+    let v = c.loop-lo.invariant in
     (omega arith, omega arith, omega (arith, v.1, v.2), v.3, (λ p f. let q : Less ≡ Greater = sym f ∙ seen (goal.at.loop-lo-preserved c).After-head_order-o Greater c.in-Greater.is in let z : ◌≡◌ {A = ℕ} 0 1 = cc in absurd (omega arith)), λ p. seen (goal.at.loop-lo-preserved c).After-head_order-o Greater c.in-Greater.is)
 
 pub returns : goal.returns
 returns c =
-    let d = c in
-    let a = d.args in
-    let v = d.loop-lo.invariant in
-    let m : d.loop-lo.hi ≡ d.loop-lo.lo = omega (arith, v.0, c.loop-lo-test.false) in
+    let a = c.args in
+    let v = c.loop-lo.invariant in
+    let m : c.loop-lo.hi ≡ c.loop-lo.lo = omega (arith, v.0, c.loop-lo-test.false) in
     record {
       ordered = omega (arith, v.0, v.1);
       inside = v.2;

@@ -48,10 +48,8 @@ bounds-starts-mid c = omega arith
 
 pub head_order-o-requires : goal.head_order-o-requires
 head_order-o-requires c =
-    let d = c in
-    let a = d in
-    ap (λ (x : ℕ). is_form (drop x a.args.sheet.now)) c.wide-at.ensures
-    ∙ indexed-form a.args.sheet.now a.args.starts.now (d.loop-lo.lo + (d.loop-lo.hi - d.loop-lo.lo) / 2) a.requires.0 (omega (arith, c.loop-lo-test.true, d.loop-lo.invariant.1, d.loop-lo.invariant.2, a.requires.2))
+    ap (λ (x : ℕ). is_form (drop x c.args.sheet.now)) c.wide-at.ensures
+    ∙ indexed-form c.args.sheet.now c.args.starts.now (c.loop-lo.lo + (c.loop-lo.hi - c.loop-lo.lo) / 2) c.requires.0 (omega (arith, c.loop-lo-test.true, c.loop-lo.invariant.1, c.loop-lo.invariant.2, c.requires.2))
 
 pub overflow_add-lo : goal.overflow_add-lo
 overflow_add-lo c = omega arith
@@ -61,8 +59,7 @@ loop-lo-smaller-in-Less c = omega arith
 
 pub loop-lo-preserved-in-Less : goal.loop-lo-preserved-in-Less
 loop-lo-preserved-in-Less c =
-    let h = c in
-    let v = h.loop-lo.invariant in
+    let v = c.loop-lo.invariant in
     (omega (arith, v.0), omega arith, v.2, (λ p f. let q : Greater ≡ Less = sym f ∙ after_middle (goal.at.loop-lo-preserved-in-Less c).After-head_order-o Less c.in-Less.is in let z : ◌≡◌ {A = ℕ} 0 1 = cc in absurd (omega arith)), v.4)
 
 pub overflow_add-lo-in-Equal : goal.overflow_add-lo-in-Equal
@@ -73,8 +70,7 @@ loop-lo-smaller-in-Equal c = omega arith
 
 pub loop-lo-preserved-in-Equal : goal.loop-lo-preserved-in-Equal
 loop-lo-preserved-in-Equal c =
-    let h = c in
-    let v = h.loop-lo.invariant in
+    let v = c.loop-lo.invariant in
     (omega (arith, v.0), omega arith, v.2, (λ p f. let q : Greater ≡ Equal = sym f ∙ after_middle (goal.at.loop-lo-preserved-in-Equal c).After-head_order-o Equal c.in-Equal.is in let z : ◌≡◌ {A = ℕ} 0 1 = cc in absurd (omega arith)), v.4)
 
 pub loop-lo-smaller : goal.loop-lo-smaller
@@ -82,16 +78,14 @@ loop-lo-smaller c = omega arith
 
 pub loop-lo-preserved : goal.loop-lo-preserved
 loop-lo-preserved c =
-    let h = c in
-    let v = h.loop-lo.invariant in
+    let v = c.loop-lo.invariant in
     (v.0, omega arith, omega (arith, v.2), v.3, λ p. seen (goal.at.loop-lo-preserved c).After-head_order-o Greater c.in-Greater.is)
 
 pub returns : goal.returns
 returns c =
-    let d = c in
-    let a = d.args in
-    let v = d.loop-lo.invariant in
-    let m : d.loop-lo.hi - 1 ≡ d.loop-lo.lo - 1 = omega (arith, v.1, c.loop-lo-test.false) in
+    let a = c.args in
+    let v = c.loop-lo.invariant in
+    let m : c.loop-lo.hi - 1 ≡ c.loop-lo.lo - 1 = omega (arith, v.1, c.loop-lo-test.false) in
     record {
       «from» = omega (arith, v.0, v.1);
       upto = v.2;

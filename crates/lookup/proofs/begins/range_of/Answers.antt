@@ -4,5 +4,4 @@ use Rattle.lookup.proofs.begins.range_of.Goals as goal
 
 pub returns : goal.returns
 returns c =
-    let b = c in
-    ranged b.args.sheet.now b.args.letter b.args.head.now b.args.starts.now b.requires c.edge_of-edge.result c.end_of-hi.result c.edge_of-edge.ensures c.end_of-hi.ensures
+    ranged c.args.sheet.now c.args.letter c.args.head.now c.args.starts.now c.requires c.edge_of-edge.result c.end_of-hi.result c.edge_of-edge.ensures c.end_of-hi.ensures

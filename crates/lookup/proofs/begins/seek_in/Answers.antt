@@ -20,7 +20,7 @@ use Rattle.lookup.proofs.begins.seek_in.Lts.View.{up-After-wide-at}
 use Rattle.lookup.proofs.begins.seek_in.Goals.{After-order_behind-o, After-wide-at}
 
 pub loop-lo-init : goal.loop-lo-init
-loop-lo-init c = let a = c in (omega arith, a.requires.1.ordered, omega arith, among a.args.sheet.now a.args.letter a.args.p.now a.args.starts.now a.requires.0 a.args.range a.requires.1 a.args.q.now)
+loop-lo-init c = (omega arith, c.requires.1.ordered, omega arith, among c.args.sheet.now c.args.letter c.args.p.now c.args.starts.now c.requires.0 c.args.range c.requires.1 c.args.q.now)
 
 abbrev middle : After-wide-at → ℕ
 middle c = let l = c.loop-lo in l.lo + (l.hi - l.lo) / 2
@@ -28,18 +28,16 @@ middle c = let l = c.loop-lo in l.lo + (l.hi - l.lo) / 2
 -- a form stands at the line in the middle
 form : (c : After-wide-at) → is_form (drop c.wide-at.result c.args.sheet.now) ≡ true
 form c =
-    let a = c in
     let v = c.loop-lo.invariant in
-    ap (λ (x : ℕ). is_form (drop x a.args.sheet.now)) c.wide-at.ensures
-    ∙ indexed-form a.args.sheet.now a.args.starts.now (middle c) a.requires.0 (omega (arith, c.loop-lo-test.true, v.2, a.requires.1.inside))
+    ap (λ (x : ℕ). is_form (drop x c.args.sheet.now)) c.wide-at.ensures
+    ∙ indexed-form c.args.sheet.now c.args.starts.now (middle c) c.requires.0 (omega (arith, c.loop-lo-test.true, v.2, c.requires.1.inside))
 
 -- which begins so
 begun : (c : After-wide-at) → let a = c.args in
     headed (key (line_at a.sheet.now c.wide-at.result)) (key_of a.letter a.p.now) ≡ Equal
 begun c =
-    let a = c in
     let v = c.loop-lo.invariant in
-    begun_at a.args.sheet.now a.args.letter a.args.p.now a.args.starts.now a.requires.0 a.args.range a.requires.1 a.args.q.now
+    begun_at c.args.sheet.now c.args.letter c.args.p.now c.args.starts.now c.requires.0 c.args.range c.requires.1 c.args.q.now
     (middle c) c.wide-at.result (omega (arith, v.0)) (omega (arith, c.loop-lo-test.true, v.2)) c.wide-at.ensures
 
 pub overflow_sub-mid : goal.overflow_sub-mid
@@ -52,7 +50,7 @@ pub offset_bounds-starts-mid : goal.offset_bounds-starts-mid
 offset_bounds-starts-mid c = omega (arith, c.well_formed)
 
 pub bounds-starts-mid : goal.bounds-starts-mid
-bounds-starts-mid c = let a = c in omega (arith, a.requires.1.inside)
+bounds-starts-mid c = omega (arith, c.requires.1.inside)
 
 pub order_behind-o-requires : goal.order_behind-o-requires
 order_behind-o-requires c = (form (goal.at.order_behind-o-requires c).After-wide-at, begun (goal.at.order_behind-o-requires c).After-wide-at)
@@ -63,12 +61,11 @@ module _ (c : After-order_behind-o) (o : Order) (e : c.order_behind-o.result ≡
       place_in a.sheet.now a.starts.now k ≡
       judge o (place_in a.sheet.now (drop (middle (up-After-wide-at _ _ _ _ _ c.before.before) + 1) (take l.hi a.starts.now)) k) (At c.wide-at.result) (place_in a.sheet.now (drop l.lo (take (middle (up-After-wide-at _ _ _ _ _ c.before.before)) a.starts.now)) k)
   round_told =
-      let b = c in
-      let a = b.args in
+      let a = c.args in
       let l = c.loop-lo in
       let t = c.loop-lo-test.true in
       l.invariant.3
-      ∙ among_round a.sheet.now a.letter a.p.now a.starts.now b.requires.0 a.range b.requires.1 a.q.now
+      ∙ among_round a.sheet.now a.letter a.p.now a.starts.now c.requires.0 a.range c.requires.1 a.q.now
       l.lo l.hi (middle (up-After-wide-at _ _ _ _ _ c.before.before)) c.wide-at.result c.order_behind-o.result o l.invariant.0 (omega arith) (omega (arith, t)) l.invariant.2
       c.wide-at.ensures c.order_behind-o.ensures e
 
@@ -80,28 +77,22 @@ loop-lo-smaller-in-Less c = omega arith
 
 pub loop-lo-preserved-in-Less : goal.loop-lo-preserved-in-Less
 loop-lo-preserved-in-Less c =
-    let n = c in
-    let v = n.loop-lo.invariant in
+    let v = c.loop-lo.invariant in
     (omega (arith, v.0), omega arith, v.2, round_told (goal.at.loop-lo-preserved-in-Less c).After-order_behind-o Less c.in-Less.is)
 
 pub returns-in-Equal : goal.returns-in-Equal
 returns-in-Equal c =
-    let n = c in
-    let b = n in
-    sought_placed b.args.sheet.now b.args.starts.now b.args.letter (b.args.p.now ++ b.args.q.now) _ b.requires.0 (sym (round_told (goal.at.returns-in-Equal c).After-order_behind-o Equal c.in-Equal.is))
+    sought_placed c.args.sheet.now c.args.starts.now c.args.letter (c.args.p.now ++ c.args.q.now) _ c.requires.0 (sym (round_told (goal.at.returns-in-Equal c).After-order_behind-o Equal c.in-Equal.is))
 
 pub loop-lo-smaller : goal.loop-lo-smaller
 loop-lo-smaller c = omega arith
 
 pub loop-lo-preserved : goal.loop-lo-preserved
 loop-lo-preserved c =
-    let n = c in
-    let v = n.loop-lo.invariant in
+    let v = c.loop-lo.invariant in
     (v.0, omega arith, omega (arith, v.2), round_told (goal.at.loop-lo-preserved c).After-order_behind-o Greater c.in-Greater.is)
 
 pub returns : goal.returns
 returns c =
-    let d = c in
-    let b = d in
-    sought_placed b.args.sheet.now b.args.starts.now b.args.letter (b.args.p.now ++ b.args.q.now) _ b.requires.0
-    (sym (d.loop-lo.invariant.3 ∙ among_none b.args.sheet.now b.args.letter b.args.p.now b.args.starts.now b.requires.0 b.args.range b.requires.1 b.args.q.now d.loop-lo.lo d.loop-lo.hi c.loop-lo-test.false))
+    sought_placed c.args.sheet.now c.args.starts.now c.args.letter (c.args.p.now ++ c.args.q.now) _ c.requires.0
+    (sym (c.loop-lo.invariant.3 ∙ among_none c.args.sheet.now c.args.letter c.args.p.now c.args.starts.now c.requires.0 c.args.range c.requires.1 c.args.q.now c.loop-lo.lo c.loop-lo.hi c.loop-lo-test.false))

@@ -42,13 +42,11 @@ line_at d at rest e =
 
 pub returns-in-End : goal.returns-in-End
 returns-in-End c =
-    let t = c in
-    let d = t in
-    let e = turn d.args.s.now d.loop-next.walk _ (sym c.in-End.is ∙ t.step-line.ensures) in
-    let p : starts_of d.args.s.now ≡ take d.loop-next.n d.loop-next.out = d.loop-next.invariant.5 ∙ ap (λ (l : List ℕ). take d.loop-next.n d.loop-next.out ++ l) e.starts ∙ append-nil _ in
+    let e = turn c.args.s.now c.loop-next.walk _ (sym c.in-End.is ∙ c.step-line.ensures) in
+    let p : starts_of c.args.s.now ≡ take c.loop-next.n c.loop-next.out = c.loop-next.invariant.5 ∙ ap (λ (l : List ℕ). take c.loop-next.n c.loop-next.out ++ l) e.starts ∙ append-nil _ in
     record {
-      said = sym (d.loop-next.invariant.2 ∙ e.said);
-      lines = sym (ap length p ∙ length-take-le d.loop-next.n d.loop-next.out (few (goal.at.returns-in-End c).At-loop-next));
+      said = sym (c.loop-next.invariant.2 ∙ e.said);
+      lines = sym (ap length p ∙ length-take-le c.loop-next.n c.loop-next.out (few (goal.at.returns-in-End c).At-loop-next));
       stored = stored (goal.at.returns-in-End c).At-loop-next;
     }
 
@@ -63,33 +61,26 @@ shape_of-out-in-NotAbove c = c.loop-next.invariant.3
 
 pub returns-in-NoForm : goal.returns-in-NoForm
 returns-in-NoForm c =
-    let t = c in
-    let d = t in
-    let e = turn d.args.s.now d.loop-next.walk _ (sym c.in-NoForm.is ∙ t.step-line.ensures) in
-    record { said = sym (d.loop-next.invariant.2 ∙ e.said); lines = line_at (goal.at.returns-in-NoForm c).At-loop-next _ _ e.starts; stored = stored (goal.at.returns-in-NoForm c).At-loop-next }
+    let e = turn c.args.s.now c.loop-next.walk _ (sym c.in-NoForm.is ∙ c.step-line.ensures) in
+    record { said = sym (c.loop-next.invariant.2 ∙ e.said); lines = line_at (goal.at.returns-in-NoForm c).At-loop-next _ _ e.starts; stored = stored (goal.at.returns-in-NoForm c).At-loop-next }
 
 pub returns-in-NotAbove : goal.returns-in-NotAbove
 returns-in-NotAbove c =
-    let t = c in
-    let d = t in
-    let e = turn d.args.s.now d.loop-next.walk _ (sym c.in-NotAbove.is ∙ t.step-line.ensures) in
-    record { said = sym (d.loop-next.invariant.2 ∙ e.said); lines = line_at (goal.at.returns-in-NotAbove c).At-loop-next _ _ e.starts; stored = stored (goal.at.returns-in-NotAbove c).At-loop-next }
+    let e = turn c.args.s.now c.loop-next.walk _ (sym c.in-NotAbove.is ∙ c.step-line.ensures) in
+    record { said = sym (c.loop-next.invariant.2 ∙ e.said); lines = line_at (goal.at.returns-in-NotAbove c).At-loop-next _ _ e.starts; stored = stored (goal.at.returns-in-NotAbove c).At-loop-next }
 
 -- the form that was reached
-form : (c : In-Form) → let d = c in
-    Formed d.args.s.now d.loop-next.walk c.in-Form.letter c.in-Form.name_end c.in-Form.value_end c.in-Form.next
-form c = let d = c in turn d.args.s.now d.loop-next.walk _ (sym c.in-Form.is ∙ c.step-line.ensures)
+form : (c : In-Form) → Formed c.args.s.now c.loop-next.walk c.in-Form.letter c.in-Form.name_end c.in-Form.value_end c.in-Form.next
+form c = turn c.args.s.now c.loop-next.walk _ (sym c.in-Form.is ∙ c.step-line.ensures)
 
 -- a line has at least so many bytes that there is room for its start
-more : (c : In-Form) → let d = c in d.loop-next.n < length d.loop-next.out
+more : (c : In-Form) → c.loop-next.n < length c.loop-next.out
 unfolding Room
 more c =
-    let d = c in
-    let b = d in
-    omega (arith, (form c).longer, (form c).fits, d.loop-next.invariant.3, d.loop-next.invariant.4, b.requires d.if-s-gt-SHEET_BYTES.false)
+    omega (arith, (form c).longer, (form c).fits, c.loop-next.invariant.3, c.loop-next.invariant.4, c.requires c.if-s-gt-SHEET_BYTES.false)
 
 pub overflow_cast-out : goal.overflow_cast-out
-overflow_cast-out c = let l = c in let d = l in omega (arith, (form (goal.at.overflow_cast-out c).In-Form).inside, d.if-s-gt-SHEET_BYTES.false)
+overflow_cast-out c = omega (arith, (form (goal.at.overflow_cast-out c).In-Form).inside, c.if-s-gt-SHEET_BYTES.false)
 
 pub offset_bounds-out-n : goal.offset_bounds-out-n
 offset_bounds-out-n c = omega (arith, more (goal.at.offset_bounds-out-n c).In-Form)
@@ -105,15 +96,13 @@ loop-next-smaller c = let f = form (goal.at.loop-next-smaller c).In-Form in omeg
 
 pub loop-next-preserved : goal.loop-next-preserved
 loop-next-preserved c =
-    let l = c in
-    let f = form (goal.at.loop-next-preserved c).In-Form in
-    let d = l in (
+    let f = form (goal.at.loop-next-preserved c).In-Form in (
       f.fits,
       f.standing,
-      d.loop-next.invariant.2 ∙ f.said,
-      simp length-set d.loop-next.invariant.3,
-      omega (arith, f.longer, d.loop-next.invariant.4),
-      d.loop-next.invariant.5 ∙ ap (λ (x : List ℕ). take d.loop-next.n d.loop-next.out ++ x) f.starts
-          ∙ sym (stored-front d.loop-next.out d.args.out.now d.loop-next.n d.loop-next.walk.at (more (goal.at.loop-next-preserved c).In-Form) _),
-      stored-behind d.loop-next.out d.args.out.now d.loop-next.n d.loop-next.walk.at (more (goal.at.loop-next-preserved c).In-Form) d.loop-next.invariant.6,
+      c.loop-next.invariant.2 ∙ f.said,
+      simp length-set c.loop-next.invariant.3,
+      omega (arith, f.longer, c.loop-next.invariant.4),
+      c.loop-next.invariant.5 ∙ ap (λ (x : List ℕ). take c.loop-next.n c.loop-next.out ++ x) f.starts
+          ∙ sym (stored-front c.loop-next.out c.args.out.now c.loop-next.n c.loop-next.walk.at (more (goal.at.loop-next-preserved c).In-Form) _),
+      stored-behind c.loop-next.out c.args.out.now c.loop-next.n c.loop-next.walk.at (more (goal.at.loop-next-preserved c).In-Form) c.loop-next.invariant.6,
     )

@@ -4,10 +4,8 @@ use Rattle.lookup.proofs.lines.first_refusal.Goals as goal
 
 pub returns-in-Refused : goal.returns-in-Refused
 returns-in-Refused c =
-    let k = c in
-    refused_with _ _ k.prepare_word-inputs.result k.prepare_word-inputs.ensures _ c.in-Refused.is
+    refused_with _ _ c.prepare_word-inputs.result c.prepare_word-inputs.ensures _ c.in-Refused.is
 
 pub returns-in-Accepted : goal.returns-in-Accepted
 returns-in-Accepted c =
-    let k = c in
-    accepted_with _ _ k.prepare_word-inputs.result k.prepare_word-inputs.ensures c.in-Accepted.is
+    accepted_with _ _ c.prepare_word-inputs.result c.prepare_word-inputs.ensures c.in-Accepted.is

@@ -21,11 +21,9 @@ loop-rounds-init c =
 
 pub returns-then-hi-lo : goal.returns-then-hi-lo
 returns-then-hi-lo c =
-    let d = c in
-    let b = d in
-    let a = b.args in
-    let n : length (drop d.loop-rounds.lo (take d.loop-rounds.hi a.starts.now)) ≡ 0 = simp (length-drop, length-take) (omega arith) in
-    (sought a.sheet.now a.starts.now a.letter _ _ b.requires (sym (d.loop-rounds.invariant.2 ∙ asked-none _ _ (enough_rounds - d.loop-rounds.rounds) _ n)), d.loop-rounds.invariant.3)
+    let a = c.args in
+    let n : length (drop c.loop-rounds.lo (take c.loop-rounds.hi a.starts.now)) ≡ 0 = simp (length-drop, length-take) (omega arith) in
+    (sought a.sheet.now a.starts.now a.letter _ _ c.requires (sym (c.loop-rounds.invariant.2 ∙ asked-none _ _ (enough_rounds - c.loop-rounds.rounds) _ n)), c.loop-rounds.invariant.3)
 
 pub overflow_add-rounds : goal.overflow_add-rounds
 overflow_add-rounds c = omega arith
@@ -44,11 +42,9 @@ bounds-starts-mid c = omega arith
 
 pub line_order-o-requires : goal.line_order-o-requires
 line_order-o-requires c =
-    let d = c in
-    let b = d in
-    let a = b.args in
+    let a = c.args in
     ap (λ (x : ℕ). is_form (drop x a.sheet.now)) c.wide-at.ensures
-    ∙ indexed-form a.sheet.now a.starts.now _ b.requires (omega arith)
+    ∙ indexed-form a.sheet.now a.starts.now _ c.requires (omega arith)
 
 pub overflow_add-lo : goal.overflow_add-lo
 overflow_add-lo c = omega arith
@@ -58,45 +54,33 @@ loop-rounds-smaller-in-Less c = omega arith
 
 pub loop-rounds-preserved-in-Less : goal.loop-rounds-preserved-in-Less
 loop-rounds-preserved-in-Less c =
-    let e = c in
-    let w = e in
-    let d = w in
-    let a = d.args in
+    let a = c.args in
     let q = key_of a.letter (a.p.now ++ a.q.now) in
-    let k = round_counted a.sheet.now q enough_rounds a.starts.now d.loop-rounds.rounds d.loop-rounds.lo d.loop-rounds.hi _ _ _ _ (omega arith) (omega arith) (omega arith) refl
-    w.wide-at.ensures e.line_order-o.ensures c.in-Less.is in
-    (omega arith, omega arith, d.loop-rounds.invariant.2 ∙ k, omega arith)
+    let k = round_counted a.sheet.now q enough_rounds a.starts.now c.loop-rounds.rounds c.loop-rounds.lo c.loop-rounds.hi _ _ _ _ (omega arith) (omega arith) (omega arith) refl
+    c.wide-at.ensures c.line_order-o.ensures c.in-Less.is in
+    (omega arith, omega arith, c.loop-rounds.invariant.2 ∙ k, omega arith)
 
 pub returns-in-Equal : goal.returns-in-Equal
 returns-in-Equal c =
-    let e = c in
-    let w = e in
-    let d = w in
-    let b = d in
-    let a = b.args in
+    let a = c.args in
     let q = key_of a.letter (a.p.now ++ a.q.now) in
-    let k = round_counted a.sheet.now q enough_rounds a.starts.now d.loop-rounds.rounds d.loop-rounds.lo d.loop-rounds.hi _ _ _ _ (omega arith) (omega arith) (omega arith) refl
-    w.wide-at.ensures e.line_order-o.ensures c.in-Equal.is in
-    (sought a.sheet.now a.starts.now a.letter _ _ b.requires (sym (d.loop-rounds.invariant.2 ∙ k)), omega arith)
+    let k = round_counted a.sheet.now q enough_rounds a.starts.now c.loop-rounds.rounds c.loop-rounds.lo c.loop-rounds.hi _ _ _ _ (omega arith) (omega arith) (omega arith) refl
+    c.wide-at.ensures c.line_order-o.ensures c.in-Equal.is in
+    (sought a.sheet.now a.starts.now a.letter _ _ c.requires (sym (c.loop-rounds.invariant.2 ∙ k)), omega arith)
 
 pub loop-rounds-smaller : goal.loop-rounds-smaller
 loop-rounds-smaller c = omega arith
 
 pub loop-rounds-preserved : goal.loop-rounds-preserved
 loop-rounds-preserved c =
-    let e = c in
-    let w = e in
-    let d = w in
-    let a = d.args in
+    let a = c.args in
     let q = key_of a.letter (a.p.now ++ a.q.now) in
-    let k = round_counted a.sheet.now q enough_rounds a.starts.now d.loop-rounds.rounds d.loop-rounds.lo d.loop-rounds.hi _ _ _ _ (omega arith) (omega arith) (omega arith) refl
-    w.wide-at.ensures e.line_order-o.ensures c.in-Greater.is in
-    (omega arith, omega arith, d.loop-rounds.invariant.2 ∙ k, omega arith)
+    let k = round_counted a.sheet.now q enough_rounds a.starts.now c.loop-rounds.rounds c.loop-rounds.lo c.loop-rounds.hi _ _ _ _ (omega arith) (omega arith) (omega arith) refl
+    c.wide-at.ensures c.line_order-o.ensures c.in-Greater.is in
+    (omega arith, omega arith, c.loop-rounds.invariant.2 ∙ k, omega arith)
 
 pub returns : goal.returns
 returns c =
-    let d = c in
-    let b = d in
-    let a = b.args in
-    let z : enough_rounds - d.loop-rounds.rounds ≡ 0 = omega arith in
-    (sought a.sheet.now a.starts.now a.letter _ _ b.requires (sym (d.loop-rounds.invariant.2 ∙ asked_spent _ _ (enough_rounds - d.loop-rounds.rounds) _ z)), d.loop-rounds.invariant.3)
+    let a = c.args in
+    let z : enough_rounds - c.loop-rounds.rounds ≡ 0 = omega arith in
+    (sought a.sheet.now a.starts.now a.letter _ _ c.requires (sym (c.loop-rounds.invariant.2 ∙ asked_spent _ _ (enough_rounds - c.loop-rounds.rounds) _ z)), c.loop-rounds.invariant.3)

@@ -18,24 +18,18 @@ module _ (c : After-prepare_sheet-ready) where
   s = c.args.sheet.now
 
 pub slice_bounds-classify_with_provenance_in-end : goal.slice_bounds-classify_with_provenance_in-end
-slice_bounds-classify_with_provenance_in-end c = let k = c in (indexed (s (goal.at.slice_bounds-classify_with_provenance_in-end c).After-prepare_sheet-ready) _ _ k.prepare_sheet-ready.result k.prepare_sheet-ready.ensures c.in-Accepted.is).0
+slice_bounds-classify_with_provenance_in-end c = (indexed (s (goal.at.slice_bounds-classify_with_provenance_in-end c).After-prepare_sheet-ready) _ _ c.prepare_sheet-ready.result c.prepare_sheet-ready.ensures c.in-Accepted.is).0
 
 pub slice_bounds-classify_with_provenance_in-end-in-Accepted : goal.slice_bounds-classify_with_provenance_in-end-in-Accepted
 slice_bounds-classify_with_provenance_in-end-in-Accepted c =
-    let e = c in
-    let k = e in
-    sym (length-take-le _ _ (indexed (s (goal.at.slice_bounds-classify_with_provenance_in-end-in-Accepted c).After-prepare_sheet-ready) _ _ k.prepare_sheet-ready.result k.prepare_sheet-ready.ensures e.in-Accepted.is).0)
+    sym (length-take-le _ _ (indexed (s (goal.at.slice_bounds-classify_with_provenance_in-end-in-Accepted c).After-prepare_sheet-ready) _ _ c.prepare_sheet-ready.result c.prepare_sheet-ready.ensures c.in-Accepted.is).0)
 
 pub classify_with_provenance_in-requires : goal.classify_with_provenance_in-requires
 classify_with_provenance_in-requires c =
-    let e = c in
-    let k = e in
-    (indexed (s (goal.at.classify_with_provenance_in-requires c).After-prepare_sheet-ready) _ _ k.prepare_sheet-ready.result k.prepare_sheet-ready.ensures e.in-Accepted.is).1
+    (indexed (s (goal.at.classify_with_provenance_in-requires c).After-prepare_sheet-ready) _ _ c.prepare_sheet-ready.result c.prepare_sheet-ready.ensures c.in-Accepted.is).1
 
 pub returns-in-Refused : goal.returns-in-Refused
 unfolding decision_answer
 returns-in-Refused c =
-    let i = c in
-    let k = i in
     ap (λ (x : Inputs). decision_if x (w (goal.at.returns-in-Refused c).After-prepare_sheet-ready) (s (goal.at.returns-in-Refused c).After-prepare_sheet-ready))
-    (said-refused (w (goal.at.returns-in-Refused c).After-prepare_sheet-ready) (s (goal.at.returns-in-Refused c).After-prepare_sheet-ready) k.prepare_sheet-ready.result.inputs _ _ k.prepare_sheet-ready.ensures.said i.in-Refused.is c.first_refusal.ensures)
+    (said-refused (w (goal.at.returns-in-Refused c).After-prepare_sheet-ready) (s (goal.at.returns-in-Refused c).After-prepare_sheet-ready) c.prepare_sheet-ready.result.inputs _ _ c.prepare_sheet-ready.ensures.said c.in-Refused.is c.first_refusal.ensures)

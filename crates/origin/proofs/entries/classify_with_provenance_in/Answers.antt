@@ -10,19 +10,16 @@ use Rattle.origin.proofs.entries.classify_with_provenance_in.Goals.{After-prepar
 
 -- what is said of the word is said of word and sheet
 said : (c : After-prepare_word-inputs) (x : Inputs) → c.prepare_word-inputs.result ≡ x → let a = c.args in x ≡ inputs_of a.word.now a.sheet.now
-said c x e = let b = c in sym e ∙ c.prepare_word-inputs.ensures ∙ said-indexed b.args.word.now b.args.sheet.now b.requires.accepted
+said c x e = sym e ∙ c.prepare_word-inputs.ensures ∙ said-indexed c.args.word.now c.args.sheet.now c.requires.accepted
 
 pub returns-in-Refused : goal.returns-in-Refused
 unfolding decision_answer
 returns-in-Refused c =
-    let k = c in
-    let a = k.args in
+    let a = c.args in
     ap (λ (x : Inputs). decision_if x a.word.now a.sheet.now) (said (goal.at.returns-in-Refused c).After-prepare_word-inputs _ c.in-Refused.is)
 
 pub returns-in-Accepted : goal.returns-in-Accepted
 unfolding decision_answer
 returns-in-Accepted c =
-    let e = c in
-    let k = e in
-    let a = k.args in
-    ap Decided c.decide_origin.ensures ∙ ap (λ (x : Inputs). decision_if x a.word.now a.sheet.now) (said (goal.at.returns-in-Accepted c).After-prepare_word-inputs _ e.in-Accepted.is)
+    let a = c.args in
+    ap Decided c.decide_origin.ensures ∙ ap (λ (x : Inputs). decision_if x a.word.now a.sheet.now) (said (goal.at.returns-in-Accepted c).After-prepare_word-inputs _ c.in-Accepted.is)

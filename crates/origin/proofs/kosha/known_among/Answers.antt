@@ -19,14 +19,12 @@ inside c = rw strip_suffix_count (omega arith)
 
 -- what is known under the suffix of this turn
 looked : (c : After-known_under-known) →
-    let d = c in
-    let a = d.args in
-    c.known_under-known.result ≡ known_under (reply a.sheet.now) a.word.now (get_or strip_suffixes d.loop-k.k [])
+    let a = c.args in
+    c.known_under-known.result ≡ known_under (reply a.sheet.now) a.word.now (get_or strip_suffixes c.loop-k.k [])
 looked c =
-    let d = c in
-    let a = d.args in
+    let a = c.args in
     c.known_under-known.ensures
-    ∙ ap (known_under (reply a.sheet.now) a.word.now) (c.row-suffix.ensures ∙ laid-row d.requires.1 d.loop-k.k (inside (up-In-loop-k _ _ _ _ _ c.before.before.before)))
+    ∙ ap (known_under (reply a.sheet.now) a.word.now) (c.row-suffix.ensures ∙ laid-row c.requires.1 c.loop-k.k (inside (up-In-loop-k _ _ _ _ _ c.before.before.before)))
 
 pub loop-k-init : goal.loop-k-init
 unfolding known_stem
@@ -37,18 +35,14 @@ row-suffix-requires c = laid-asks c.requires.1 c.loop-k.k (inside (goal.at.row-s
 
 pub returns-in-Tagged : goal.returns-in-Tagged
 returns-in-Tagged c =
-    let u = c in
-    let d = u in
-    let a = d.args in
-    sym (d.loop-k.invariant.1 ∙ first_at (known_under (reply a.sheet.now) a.word.now) strip_suffixes d.loop-k.k _ (inside (goal.at.returns-in-Tagged c).In-loop-k)
+    let a = c.args in
+    sym (c.loop-k.invariant.1 ∙ first_at (known_under (reply a.sheet.now) a.word.now) strip_suffixes c.loop-k.k _ (inside (goal.at.returns-in-Tagged c).In-loop-k)
     (sym c.in-Tagged.is ∙ looked (goal.at.returns-in-Tagged c).After-known_under-known))
 
 pub returns-in-Headword : goal.returns-in-Headword
 returns-in-Headword c =
-    let u = c in
-    let d = u in
-    let a = d.args in
-    sym (d.loop-k.invariant.1 ∙ first_at (known_under (reply a.sheet.now) a.word.now) strip_suffixes d.loop-k.k _ (inside (goal.at.returns-in-Headword c).In-loop-k)
+    let a = c.args in
+    sym (c.loop-k.invariant.1 ∙ first_at (known_under (reply a.sheet.now) a.word.now) strip_suffixes c.loop-k.k _ (inside (goal.at.returns-in-Headword c).In-loop-k)
     (sym c.in-Headword.is ∙ looked (goal.at.returns-in-Headword c).After-known_under-known))
 
 pub overflow_add-k : goal.overflow_add-k
@@ -59,11 +53,9 @@ loop-k-smaller c = omega arith
 
 pub loop-k-preserved : goal.loop-k-preserved
 loop-k-preserved c =
-    let u = c in
-    let d = u in
-    let a = d.args in (
+    let a = c.args in (
       omega arith,
-      d.loop-k.invariant.1 ∙ first_at (known_under (reply a.sheet.now) a.word.now) strip_suffixes d.loop-k.k _ (inside (goal.at.loop-k-preserved c).In-loop-k)
+      c.loop-k.invariant.1 ∙ first_at (known_under (reply a.sheet.now) a.word.now) strip_suffixes c.loop-k.k _ (inside (goal.at.loop-k-preserved c).In-loop-k)
           (sym c.in-NotKnown.is ∙ looked (goal.at.loop-k-preserved c).After-known_under-known),
     )
 

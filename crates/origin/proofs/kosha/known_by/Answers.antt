@@ -5,12 +5,10 @@ use Rattle.origin.proofs.kosha.known_by.Goals as goal
 
 pub returns-then-letters : goal.returns-then-letters
 returns-then-letters c =
-    let l = c in
-    let a = l.args in
-    c.if_untagged.ensures ∙ told a.sheet.now a.name.now l.letters_of-letters.result _ l.letters_of-letters.ensures c.if-letters.true
+    let a = c.args in
+    c.if_untagged.ensures ∙ told a.sheet.now a.name.now c.letters_of-letters.result _ c.letters_of-letters.ensures c.if-letters.true
 
 pub returns : goal.returns
 returns c =
-    let l = c in
-    let a = l.args in
-    c.if_untagged-2.ensures ∙ told a.sheet.now a.name.now l.letters_of-letters.result _ l.letters_of-letters.ensures c.if-letters.false
+    let a = c.args in
+    c.if_untagged-2.ensures ∙ told a.sheet.now a.name.now c.letters_of-letters.result _ c.letters_of-letters.ensures c.if-letters.false

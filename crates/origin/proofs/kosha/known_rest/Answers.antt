@@ -16,7 +16,6 @@ returns-then-count-le1 c =
 pub returns : goal.returns
 unfolding known_rest
 returns c =
-    let d = c in
-    let n = d.count.ensures in
-    let h : 1 < chars d.args.rest.now = omega arith in
+    let n = c.count.ensures in
+    let h : 1 < chars c.args.rest.now = omega arith in
     rw (lt-ltb 1 _ h) c.known_by.ensures

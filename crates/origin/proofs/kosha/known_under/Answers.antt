@@ -15,9 +15,8 @@ inside c =
 
 pub returns-then-count-eq0 : goal.returns-then-count-eq0
 returns-then-count-eq0 c =
-    let r = c in
-    let a = r.args in
-    under_none (reply a.sheet.now) a.word.now a.suffix.now r.suffix_rests-rests.result r.suffix_rests-rests.ensures
+    let a = c.args in
+    under_none (reply a.sheet.now) a.word.now a.suffix.now c.suffix_rests-rests.result c.suffix_rests-rests.ensures
     c.if-count-eq0.true
 
 pub slice_bounds-known_rest-end : goal.slice_bounds-known_rest-end
@@ -25,41 +24,29 @@ slice_bounds-known_rest-end c = sym (length-take-le _ _ (inside (goal.at.slice_b
 
 pub returns-then-count-eq1 : goal.returns-then-count-eq1
 returns-then-count-eq1 c =
-    let k = c in
-    let e = k in
-    let r = e in
-    let a = r.args in
-    under_one (reply a.sheet.now) a.word.now a.suffix.now r.suffix_rests-rests.result r.suffix_rests-rests.ensures
-    c.if-count-eq1.true (sym c.in-NotKnown.is ∙ k.known_rest-first.ensures)
+    let a = c.args in
+    under_one (reply a.sheet.now) a.word.now a.suffix.now c.suffix_rests-rests.result c.suffix_rests-rests.ensures
+    c.if-count-eq1.true (sym c.in-NotKnown.is ∙ c.known_rest-first.ensures)
 
 pub slice_bounds-known_rest-end-in-NotKnown : goal.slice_bounds-known_rest-end-in-NotKnown
 slice_bounds-known_rest-end-in-NotKnown c = sym (length-take-le _ _ (inside (goal.at.slice_bounds-known_rest-end-in-NotKnown c).After-suffix_rests-rests).shared_in)
 
 pub returns-in-Tagged : goal.returns-in-Tagged
 returns-in-Tagged c =
-    let k = c in
-    let e = k in
-    let r = e in
-    let a = r.args in
-    under_plain (reply a.sheet.now) a.word.now a.suffix.now r.suffix_rests-rests.result r.suffix_rests-rests.ensures
-    _ _ e.if-count-eq0.false k.known_rest-first.ensures c.in-Tagged.is (λ x. refl)
+    let a = c.args in
+    under_plain (reply a.sheet.now) a.word.now a.suffix.now c.suffix_rests-rests.result c.suffix_rests-rests.ensures
+    _ _ c.if-count-eq0.false c.known_rest-first.ensures c.in-Tagged.is (λ x. refl)
 
 pub returns-in-Headword : goal.returns-in-Headword
 returns-in-Headword c =
-    let k = c in
-    let e = k in
-    let r = e in
-    let a = r.args in
-    under_plain (reply a.sheet.now) a.word.now a.suffix.now r.suffix_rests-rests.result r.suffix_rests-rests.ensures
-    _ _ e.if-count-eq0.false k.known_rest-first.ensures c.in-Headword.is (λ x. refl)
+    let a = c.args in
+    under_plain (reply a.sheet.now) a.word.now a.suffix.now c.suffix_rests-rests.result c.suffix_rests-rests.ensures
+    _ _ c.if-count-eq0.false c.known_rest-first.ensures c.in-Headword.is (λ x. refl)
 
 pub returns-else-count-eq1 : goal.returns-else-count-eq1
 returns-else-count-eq1 c =
-    let k = c in
-    let e = k in
-    let r = e in
-    let a = r.args in
+    let a = c.args in
     c.known_rest.ensures
-    ∙ under_two (reply a.sheet.now) a.word.now a.suffix.now r.suffix_rests-rests.result r.suffix_rests-rests.ensures
-    e.if-count-eq0.false c.if-count-eq1.false
-    (sym c.in-NotKnown.is ∙ k.known_rest-first.ensures)
+    ∙ under_two (reply a.sheet.now) a.word.now a.suffix.now c.suffix_rests-rests.result c.suffix_rests-rests.ensures
+    c.if-count-eq0.false c.if-count-eq1.false
+    (sym c.in-NotKnown.is ∙ c.known_rest-first.ensures)

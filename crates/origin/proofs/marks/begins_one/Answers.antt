@@ -11,12 +11,10 @@ use Rattle.origin.proofs.marks.begins_one.Goals.{After-begins_with}
 
 -- whether the word begins with the text of this turn
 looked : (c : After-begins_with) →
-    let d = c in
-    let a = d.args in
-    c.begins_with.result ≡ begins_with (row_at a.texts.now a.starts.now d.loop-k.k) a.word.now
+    let a = c.args in
+    c.begins_with.result ≡ begins_with (row_at a.texts.now a.starts.now c.loop-k.k) a.word.now
 looked c =
-    let d = c in
-    let a = d.args in
+    let a = c.args in
     c.begins_with.ensures ∙ ap (λ (t : List ℕ). begins_with t a.word.now) c.row.ensures
 
 pub loop-k-init : goal.loop-k-init
@@ -30,9 +28,8 @@ row-requires c = (c.requires, omega arith)
 
 pub returns-then-begins_with : goal.returns-then-begins_with
 returns-then-begins_with c =
-    let d = c in
-    let a = d.args in
-    sym (d.loop-k.invariant.1 ∙ some_here (λ (t : List ℕ). begins_with t a.word.now) a.texts.now a.starts.now d.loop-k.k (omega arith)
+    let a = c.args in
+    sym (c.loop-k.invariant.1 ∙ some_here (λ (t : List ℕ). begins_with t a.word.now) a.texts.now a.starts.now c.loop-k.k (omega arith)
     (sym (looked (goal.at.returns-then-begins_with c).After-begins_with) ∙ c.if-begins_with.true))
 
 pub overflow_add-k-in-loop-k : goal.overflow_add-k-in-loop-k
@@ -43,15 +40,13 @@ loop-k-smaller c = omega arith
 
 pub loop-k-preserved : goal.loop-k-preserved
 loop-k-preserved c =
-    let d = c in
-    let a = d.args in (
+    let a = c.args in (
       omega arith,
-      d.loop-k.invariant.1 ∙ some_next (λ (t : List ℕ). begins_with t a.word.now) a.texts.now a.starts.now d.loop-k.k (omega arith)
+      c.loop-k.invariant.1 ∙ some_next (λ (t : List ℕ). begins_with t a.word.now) a.texts.now a.starts.now c.loop-k.k (omega arith)
           (sym (looked (goal.at.loop-k-preserved c).After-begins_with) ∙ c.if-begins_with.false),
     )
 
 pub returns : goal.returns
 returns c =
-    let d = c in
-    let a = d.args in
-    sym (d.loop-k.invariant.1 ∙ some_end (λ (t : List ℕ). begins_with t a.word.now) a.texts.now a.starts.now d.loop-k.k c.loop-k-test.false)
+    let a = c.args in
+    sym (c.loop-k.invariant.1 ∙ some_end (λ (t : List ℕ). begins_with t a.word.now) a.texts.now a.starts.now c.loop-k.k c.loop-k-test.false)

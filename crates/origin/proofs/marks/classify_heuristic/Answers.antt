@@ -8,8 +8,7 @@ use Rattle.origin.proofs.marks.classify_heuristic.Goals as goal
 pub returns-then-not-may_mark : goal.returns-then-not-may_mark
 unfolding heuristic_of
 returns-then-not-may_mark c =
-    let m = c in
-    let e = sym m.may_mark.ensures ∙ c.if-not-may_mark.true in
+    let e = sym c.may_mark.ensures ∙ c.if-not-may_mark.true in
     rw (no_aagantuk _ e, no_tatsam _ e) c.by_end.ensures
 
 pub returns-then-has_aagantuk_markers : goal.returns-then-has_aagantuk_markers
@@ -19,12 +18,9 @@ returns-then-has_aagantuk_markers c = rw (sym c.has_aagantuk_markers.ensures ∙
 pub returns-then-has_tatsam_markers : goal.returns-then-has_tatsam_markers
 unfolding heuristic_of
 returns-then-has_tatsam_markers c =
-    let d = c in
-    rw (sym d.has_aagantuk_markers.ensures ∙ d.if-has_aagantuk_markers.false, sym c.has_tatsam_markers.ensures ∙ c.if-has_tatsam_markers.true)
+    rw (sym c.has_aagantuk_markers.ensures ∙ c.if-has_aagantuk_markers.false, sym c.has_tatsam_markers.ensures ∙ c.if-has_tatsam_markers.true)
 
 pub returns : goal.returns
 unfolding heuristic_of
 returns c =
-    let e = c in
-    let d = e in
-    rw (sym d.has_aagantuk_markers.ensures ∙ d.if-has_aagantuk_markers.false, sym e.has_tatsam_markers.ensures ∙ e.if-has_tatsam_markers.false) c.by_end-2.ensures
+    rw (sym c.has_aagantuk_markers.ensures ∙ c.if-has_aagantuk_markers.false, sym c.has_tatsam_markers.ensures ∙ c.if-has_tatsam_markers.false) c.by_end-2.ensures

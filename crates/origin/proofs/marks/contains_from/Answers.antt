@@ -9,13 +9,11 @@ use Rattle.origin.proofs.marks.contains_from.Goals.{After-begins_with}
 
 -- whether the text stands at the front of what is left
 looked : (c : After-begins_with) →
-    let d = c in
-    let a = d.args in
-    c.begins_with.result ≡ begins_with a.text.now (drop d.loop-i.i a.word.now)
+    let a = c.args in
+    c.begins_with.result ≡ begins_with a.text.now (drop c.loop-i.i a.word.now)
 looked c =
-    let d = c in
-    let a = d.args in
-    c.begins_with.ensures ∙ ap (begins_with a.text.now) (rest_lent a.word.now d.loop-i.i)
+    let a = c.args in
+    c.begins_with.ensures ∙ ap (begins_with a.text.now) (rest_lent a.word.now c.loop-i.i)
 
 pub loop-i-init : goal.loop-i-init
 loop-i-init c = (omega arith, refl)
@@ -31,9 +29,8 @@ slice_bounds-begins_with-end c = omega arith
 
 pub returns-then-begins_with : goal.returns-then-begins_with
 returns-then-begins_with c =
-    let d = c in
-    let a = d.args in
-    sym (d.loop-i.invariant.1 ∙ contains_here a.text.now a.word.now d.loop-i.i (omega arith) (sym (looked (goal.at.returns-then-begins_with c).After-begins_with) ∙ c.if-begins_with.true))
+    let a = c.args in
+    sym (c.loop-i.invariant.1 ∙ contains_here a.text.now a.word.now c.loop-i.i (omega arith) (sym (looked (goal.at.returns-then-begins_with c).After-begins_with) ∙ c.if-begins_with.true))
 
 pub overflow_add-i : goal.overflow_add-i
 overflow_add-i c = omega arith
@@ -43,12 +40,10 @@ loop-i-smaller c = omega arith
 
 pub loop-i-preserved : goal.loop-i-preserved
 loop-i-preserved c =
-    let d = c in
-    let a = d.args in
-    (omega arith, d.loop-i.invariant.1 ∙ contains_next a.text.now a.word.now d.loop-i.i (omega arith) (sym (looked (goal.at.loop-i-preserved c).After-begins_with) ∙ c.if-begins_with.false))
+    let a = c.args in
+    (omega arith, c.loop-i.invariant.1 ∙ contains_next a.text.now a.word.now c.loop-i.i (omega arith) (sym (looked (goal.at.loop-i-preserved c).After-begins_with) ∙ c.if-begins_with.false))
 
 pub returns : goal.returns
 returns c =
-    let d = c in
-    let a = d.args in
-    sym (d.loop-i.invariant.1 ∙ contains-end a.text.now a.word.now d.loop-i.i c.loop-i-test.false)
+    let a = c.args in
+    sym (c.loop-i.invariant.1 ∙ contains-end a.text.now a.word.now c.loop-i.i c.loop-i-test.false)

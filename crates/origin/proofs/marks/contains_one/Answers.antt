@@ -14,10 +14,8 @@ opens_one-requires c = let p = c.requires in (omega arith, p.0, p.1)
 
 pub returns-then-opens_one : goal.returns-then-opens_one
 returns-then-opens_one c =
-    let o = c in
-    let d = o in
-    let a = d.args in
-    sym (d.loop-i.invariant.1 ∙ found_at (cut a.texts.now a.starts.now) a.word.now d.loop-i.i (omega arith) (sym o.opens_one.ensures ∙ c.if-opens_one.true))
+    let a = c.args in
+    sym (c.loop-i.invariant.1 ∙ found_at (cut a.texts.now a.starts.now) a.word.now c.loop-i.i (omega arith) (sym c.opens_one.ensures ∙ c.if-opens_one.true))
 
 pub overflow_add-i : goal.overflow_add-i
 overflow_add-i c = omega arith
@@ -27,13 +25,9 @@ loop-i-smaller c = omega arith
 
 pub loop-i-preserved : goal.loop-i-preserved
 loop-i-preserved c =
-    let o = c in
-    let d = o in
-    let a = d.args in
-    (omega arith, d.loop-i.invariant.1 ∙ next_at (cut a.texts.now a.starts.now) a.word.now d.loop-i.i (omega arith) (sym o.opens_one.ensures ∙ c.if-opens_one.false))
+    let a = c.args in
+    (omega arith, c.loop-i.invariant.1 ∙ next_at (cut a.texts.now a.starts.now) a.word.now c.loop-i.i (omega arith) (sym c.opens_one.ensures ∙ c.if-opens_one.false))
 
 pub returns : goal.returns
 returns c =
-    let d = c in
-    let b = d in
-    sym (d.loop-i.invariant.1 ∙ none_at_end (cut b.args.texts.now b.args.starts.now) b.args.word.now d.loop-i.i b.requires.1 c.loop-i-test.false)
+    sym (c.loop-i.invariant.1 ∙ none_at_end (cut c.args.texts.now c.args.starts.now) c.args.word.now c.loop-i.i c.requires.1 c.loop-i-test.false)

@@ -12,12 +12,10 @@ use Rattle.origin.proofs.marks.ends_in_one.Goals.{After-ends_with}
 
 -- whether the word ends in the text of this turn
 looked : (c : After-ends_with) →
-    let d = c in
-    let a = d.args in
-    c.ends_with.result ≡ ends_in (row_at a.texts.now a.starts.now d.loop-k.k) a.word.now
+    let a = c.args in
+    c.ends_with.result ≡ ends_in (row_at a.texts.now a.starts.now c.loop-k.k) a.word.now
 looked c =
-    let d = c in
-    let a = d.args in
+    let a = c.args in
     c.ends_with.ensures ∙ ap (λ (t : List ℕ). ends_in t a.word.now) c.row.ensures
 
 pub loop-k-init : goal.loop-k-init
@@ -32,9 +30,8 @@ row-requires c = (c.requires, omega arith)
 
 pub returns-then-ends_with : goal.returns-then-ends_with
 returns-then-ends_with c =
-    let d = c in
-    let a = d.args in
-    sym (d.loop-k.invariant.1 ∙ some_here (λ (t : List ℕ). ends_in t a.word.now) a.texts.now a.starts.now d.loop-k.k (omega arith)
+    let a = c.args in
+    sym (c.loop-k.invariant.1 ∙ some_here (λ (t : List ℕ). ends_in t a.word.now) a.texts.now a.starts.now c.loop-k.k (omega arith)
     (sym (looked (goal.at.returns-then-ends_with c).After-ends_with) ∙ c.if-ends_with.true))
 
 pub overflow_add-k-in-loop-k : goal.overflow_add-k-in-loop-k
@@ -45,15 +42,13 @@ loop-k-smaller c = omega arith
 
 pub loop-k-preserved : goal.loop-k-preserved
 loop-k-preserved c =
-    let d = c in
-    let a = d.args in (
+    let a = c.args in (
       omega arith,
-      d.loop-k.invariant.1 ∙ some_next (λ (t : List ℕ). ends_in t a.word.now) a.texts.now a.starts.now d.loop-k.k (omega arith)
+      c.loop-k.invariant.1 ∙ some_next (λ (t : List ℕ). ends_in t a.word.now) a.texts.now a.starts.now c.loop-k.k (omega arith)
           (sym (looked (goal.at.loop-k-preserved c).After-ends_with) ∙ c.if-ends_with.false),
     )
 
 pub returns : goal.returns
 returns c =
-    let d = c in
-    let a = d.args in
-    sym (d.loop-k.invariant.1 ∙ some_end (λ (t : List ℕ). ends_in t a.word.now) a.texts.now a.starts.now d.loop-k.k c.loop-k-test.false)
+    let a = c.args in
+    sym (c.loop-k.invariant.1 ∙ some_end (λ (t : List ℕ). ends_in t a.word.now) a.texts.now a.starts.now c.loop-k.k c.loop-k-test.false)

@@ -14,10 +14,9 @@ use Rattle.origin.proofs.marks.has_aagantuk_markers.Goals.{After-contains_one}
 -- whether the word contains one of the table's texts
 looked : (c : After-contains_one) → c.contains_one.result ≡ contains_one aagantuk_marks c.args.word.now
 looked c =
-    let s = c in
     c.contains_one.ensures
-    ∙ ap (λ (ts : List (List ℕ)). contains_one ts s.args.word.now)
-    (cut-rows aagantuk_marks _ _ aagantuk_cut s.aagantuk_marks-texts.ensures s.aagantuk_mark_starts-starts.ensures)
+    ∙ ap (λ (ts : List (List ℕ)). contains_one ts c.args.word.now)
+    (cut-rows aagantuk_marks _ _ aagantuk_cut c.aagantuk_marks-texts.ensures c.aagantuk_mark_starts-starts.ensures)
 
 pub contains_one-requires : goal.contains_one-requires
 contains_one-requires c =
@@ -34,9 +33,7 @@ returns-then-contains_one c =
 pub returns : goal.returns
 unfolding has_aagantuk_markers
 returns c =
-    let f = c in
-    let e = f in
-    let w = e.args.word.now in
+    let w = c.args.word.now in
     c.contains_from.ensures
-    ∙ ap (λ (i : ℕ). contains nukta (drop i w)) f.first_char_len-first.ensures.0
-    ∙ or_false (contains_one aagantuk_marks w) (contains nukta (after_first w)) (sym (looked (goal.at.returns c).After-contains_one) ∙ e.if-contains_one.false)
+    ∙ ap (λ (i : ℕ). contains nukta (drop i w)) c.first_char_len-first.ensures.0
+    ∙ or_false (contains_one aagantuk_marks w) (contains nukta (after_first w)) (sym (looked (goal.at.returns c).After-contains_one) ∙ c.if-contains_one.false)

@@ -12,7 +12,6 @@ ends_in_one-requires c = can_cut tadbhav_ends _ _ tadbhav_some c.tadbhav_ends-te
 pub returns : goal.returns
 unfolding has_tadbhav_markers
 returns c =
-    let s = c in
     c.ends_in_one.ensures
-    ∙ ap (λ (ts : List (List ℕ)). ends_in_one ts s.args.word.now)
-    (cut-rows tadbhav_ends _ _ tadbhav_cut s.tadbhav_ends-texts.ensures s.tadbhav_end_starts-starts.ensures)
+    ∙ ap (λ (ts : List (List ℕ)). ends_in_one ts c.args.word.now)
+    (cut-rows tadbhav_ends _ _ tadbhav_cut c.tadbhav_ends-texts.ensures c.tadbhav_end_starts-starts.ensures)

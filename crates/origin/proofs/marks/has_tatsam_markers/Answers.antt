@@ -17,7 +17,6 @@ contains_one-requires c =
 pub returns : goal.returns
 unfolding has_tatsam_markers
 returns c =
-    let s = c in
     c.contains_one.ensures
-    ∙ ap (λ (ts : List (List ℕ)). contains_one ts s.args.word.now)
-    (cut-rows tatsam_marks _ _ tatsam_cut s.tatsam_marks-texts.ensures s.tatsam_mark_starts-starts.ensures)
+    ∙ ap (λ (ts : List (List ℕ)). contains_one ts c.args.word.now)
+    (cut-rows tatsam_marks _ _ tatsam_cut c.tatsam_marks-texts.ensures c.tatsam_mark_starts-starts.ensures)

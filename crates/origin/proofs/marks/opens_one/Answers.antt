@@ -8,9 +8,7 @@ use Rattle.origin.proofs.marks.opens_one.Goals as goal
 
 pub returns-then-not-may_open : goal.returns-then-not-may_open
 returns-then-not-may_open c =
-    let m = c in
-    let b = m in
-    sym (none_begin (cut b.args.texts.now b.args.starts.now) (drop b.args.i b.args.word.now) b.requires.2 (sym m.may_open.ensures ∙ c.if-not-may_open.true))
+    sym (none_begin (cut c.args.texts.now c.args.starts.now) (drop c.args.i c.args.word.now) c.requires.2 (sym c.may_open.ensures ∙ c.if-not-may_open.true))
 
 pub returns : goal.returns
 returns c =

@@ -33,7 +33,6 @@ read a b masks e = ap (λ (l : List ℕ). eqb (bit_and (get_or l (a - 0x80) 0 / 
 pub returns : goal.returns
 unfolding ends_listed
 returns c =
-    let e = c in
-    let a = e.args in
-    rw (le-ltb _ _ e.if-a-lt128.false, le-ltb _ _ e.if-a-gt191.false, le-ltb _ _ e.if-b-lt128.false, le-ltb _ _ e.if-b-gt191.false)
+    let a = c.args in
+    rw (le-ltb _ _ c.if-a-lt128.false, le-ltb _ _ c.if-a-gt191.false, le-ltb _ _ c.if-b-lt128.false, le-ltb _ _ c.if-b-gt191.false)
     (read a.a a.b _ c.last_bytes-masks.ensures)

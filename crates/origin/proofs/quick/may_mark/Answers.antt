@@ -12,10 +12,8 @@ loop-i-init c = (omega arith, refl)
 pub returns-then-may_open : goal.returns-then-may_open
 unfolding may_mark
 returns-then-may_open c =
-    let o = c in
-    let d = o in
-    let a = d.args in
-    sym (d.loop-i.invariant.1 ∙ some_at may_open a.word.now d.loop-i.i true (omega arith) (sym c.if-may_open.true ∙ o.may_open.ensures))
+    let a = c.args in
+    sym (c.loop-i.invariant.1 ∙ some_at may_open a.word.now c.loop-i.i true (omega arith) (sym c.if-may_open.true ∙ c.may_open.ensures))
 
 pub overflow_add-i : goal.overflow_add-i
 overflow_add-i c = omega arith
@@ -25,14 +23,11 @@ loop-i-smaller c = omega arith
 
 pub loop-i-preserved : goal.loop-i-preserved
 loop-i-preserved c =
-    let o = c in
-    let d = o in
-    let a = d.args in
-    (omega arith, d.loop-i.invariant.1 ∙ some_at may_open a.word.now d.loop-i.i false (omega arith) (sym c.if-may_open.false ∙ o.may_open.ensures))
+    let a = c.args in
+    (omega arith, c.loop-i.invariant.1 ∙ some_at may_open a.word.now c.loop-i.i false (omega arith) (sym c.if-may_open.false ∙ c.may_open.ensures))
 
 pub returns : goal.returns
 unfolding may_mark
 returns c =
-    let d = c in
-    let a = d.args in
-    sym (d.loop-i.invariant.1 ∙ some_end may_open a.word.now d.loop-i.i c.loop-i-test.false)
+    let a = c.args in
+    sym (c.loop-i.invariant.1 ∙ some_end may_open a.word.now c.loop-i.i c.loop-i-test.false)

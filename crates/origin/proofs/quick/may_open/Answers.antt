@@ -4,11 +4,8 @@ use Rattle.origin.proofs.quick.may_open.Goals as goal
 
 pub returns-then-word-i : goal.returns-then-word-i
 returns-then-word-i c =
-    let v = c in
-    let b = v in
-    let a = b in
-    let w = a.args in
-    opened w.word.now w.i _ _ _ _ a.if-word-i.true a.byte_at-a.ensures b.byte_at-b.ensures v.byte_at-v.ensures c.opens_mark.ensures
+    let w = c.args in
+    opened w.word.now w.i _ _ _ _ c.if-word-i.true c.byte_at-a.ensures c.byte_at-b.ensures c.byte_at-v.ensures c.opens_mark.ensures
 
 pub returns : goal.returns
 returns c = let w = c.args in not_opened w.word.now w.i c.if-word-i.false

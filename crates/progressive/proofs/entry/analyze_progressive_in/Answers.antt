@@ -6,13 +6,8 @@ use Rattle.progressive.proofs.entry.analyze_progressive_in.Goals as goal
 
 pub returns-in-Refused : goal.returns-in-Refused
 returns-in-Refused c =
-    let k = c in
-    let b = k in
-    refused b.args.word.now b.args.sheet.now _ _ (k.prepare_word-inputs.ensures ∙ said-indexed b.args.word.now b.args.sheet.now b.requires.accepted) c.in-Refused.is
+    refused c.args.word.now c.args.sheet.now _ _ (c.prepare_word-inputs.ensures ∙ said-indexed c.args.word.now c.args.sheet.now c.requires.accepted) c.in-Refused.is
 
 pub returns-in-Accepted : goal.returns-in-Accepted
 returns-in-Accepted c =
-    let e = c in
-    let k = e in
-    let b = k in
-    given b.args.word.now b.args.sheet.now _ _ (k.prepare_word-inputs.ensures ∙ said-indexed b.args.word.now b.args.sheet.now b.requires.accepted) e.in-Accepted.is c.find_progressive.ensures
+    given c.args.word.now c.args.sheet.now _ _ (c.prepare_word-inputs.ensures ∙ said-indexed c.args.word.now c.args.sheet.now c.requires.accepted) c.in-Accepted.is c.find_progressive.ensures

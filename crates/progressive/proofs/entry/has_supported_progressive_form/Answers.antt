@@ -4,12 +4,10 @@ use Rattle.progressive.proofs.entry.has_supported_progressive_form.Goals as goal
 
 pub returns-in-Refused : goal.returns-in-Refused
 returns-in-Refused c =
-    let d = c in
-    let a = d.args in
-    support_settled a.word.now a.sheet.now _ _ d.analyze_progressive-answer.ensures c.in-Refused.is
+    let a = c.args in
+    support_settled a.word.now a.sheet.now _ _ c.analyze_progressive-answer.ensures c.in-Refused.is
 
 pub returns-in-Given : goal.returns-in-Given
 returns-in-Given c =
-    let d = c in
-    let a = d.args in
-    support_settled a.word.now a.sheet.now _ _ d.analyze_progressive-answer.ensures c.in-Given.is
+    let a = c.args in
+    support_settled a.word.now a.sheet.now _ _ c.analyze_progressive-answer.ensures c.in-Given.is

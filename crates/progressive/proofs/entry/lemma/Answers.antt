@@ -13,10 +13,9 @@ inside : (c : After-form_of-form) →
     let s = c.args.sheet.now in
     c.form_of-form.result.lemma_at + c.form_of-form.result.lemma_len ≤ length s
 inside c =
-    let d = c in
-    let a = d.args in
+    let a = c.args in
     subst (λ (r : Progressive). r.lemma_at + r.lemma_len ≤ length a.sheet.now) (sym c.form_of-form.ensures)
-    (given_inside a.word.now a.sheet.now d.analyze_progressive-answer.result d.analyze_progressive-answer.ensures.lies)
+    (given_inside a.word.now a.sheet.now c.analyze_progressive-answer.result c.analyze_progressive-answer.ensures.lies)
 
 pub overflow_add-end : goal.overflow_add-end
 overflow_add-end c = omega (arith, inside (goal.at.overflow_add-end c).After-form_of-form)
@@ -26,7 +25,5 @@ slice_bounds-result-end c = inside (goal.at.slice_bounds-result-end c).After-for
 
 pub returns : goal.returns
 returns c =
-    let f = c in
-    let d = f in
-    let a = d.args in
-    part-given a.word.now a.sheet.now d.analyze_progressive-answer.result _ d.analyze_progressive-answer.ensures f.form_of-form.ensures
+    let a = c.args in
+    part-given a.word.now a.sheet.now c.analyze_progressive-answer.result _ c.analyze_progressive-answer.ensures c.form_of-form.ensures

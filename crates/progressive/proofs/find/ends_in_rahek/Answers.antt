@@ -8,11 +8,8 @@ returns-then-ends_with c = one_of _ _ _ (sym c.ends_with.ensures ∙ c.if-ends_w
 
 pub returns-then-ends_with-2 : goal.returns-then-ends_with-2
 returns-then-ends_with-2 c =
-    let d = c in
-    two_of _ _ _ (sym d.ends_with.ensures ∙ d.if-ends_with.false) (sym c.ends_with-2.ensures ∙ c.if-ends_with-2.true)
+    two_of _ _ _ (sym c.ends_with.ensures ∙ c.if-ends_with.false) (sym c.ends_with-2.ensures ∙ c.if-ends_with-2.true)
 
 pub returns : goal.returns
 returns c =
-    let e = c in
-    let d = e in
-    c.ends_with-3.ensures ∙ three_of _ _ _ (sym d.ends_with.ensures ∙ d.if-ends_with.false) (sym e.ends_with-2.ensures ∙ e.if-ends_with-2.false)
+    c.ends_with-3.ensures ∙ three_of _ _ _ (sym c.ends_with.ensures ∙ c.if-ends_with.false) (sym c.ends_with-2.ensures ∙ c.if-ends_with-2.false)

@@ -37,8 +37,7 @@ left : (c : Else-lemma) →
     let a = c.args in
     progressive_of (reply a.sheet.now) a.word.now ≡ again a.sheet.now a.word.now
 left c =
-    let d = c in
-    let a = d.args in
+    let a = c.args in
     goes_again a.sheet.now a.word.now (asked (up-Else-not-is_verb _ _ _ c.before.before.before)) _ c.supported_infinitive-lemma.ensures c.if-lemma.false
 
 -- the stem begins with न
@@ -68,16 +67,13 @@ positive c =
 
 pub returns-then-not-is_shaped : goal.returns-then-not-is_shaped
 returns-then-not-is_shaped c =
-    let t = c in
-    let a = t.args in
-    none-form a.sheet.now a.word.now _ (not_shaped a.sheet.now a.word.now (sym t.is_shaped.ensures ∙ t.if-not-is_shaped.true)) c.no_form.ensures
+    let a = c.args in
+    none-form a.sheet.now a.word.now _ (not_shaped a.sheet.now a.word.now (sym c.is_shaped.ensures ∙ c.if-not-is_shaped.true)) c.no_form.ensures
 
 pub returns-then-not-is_verb : goal.returns-then-not-is_verb
 returns-then-not-is_verb c =
-    let t = c in
-    let d = t in
-    let a = d.args in
-    none-form a.sheet.now a.word.now _ (no_auxiliary a.sheet.now a.word.now (shape (goal.at.returns-then-not-is_verb c).Else-not-is_shaped) (sym t.is_verb.ensures ∙ t.if-not-is_verb.true)) c.no_form-then-not-is_verb.ensures
+    let a = c.args in
+    none-form a.sheet.now a.word.now _ (no_auxiliary a.sheet.now a.word.now (shape (goal.at.returns-then-not-is_verb c).Else-not-is_shaped) (sym c.is_verb.ensures ∙ c.if-not-is_verb.true)) c.no_form-then-not-is_verb.ensures
 
 pub overflow_sub-main_end : goal.overflow_sub-main_end
 overflow_sub-main_end c = let f = long (goal.at.overflow_sub-main_end c).Else-not-is_verb in omega arith
@@ -93,21 +89,16 @@ slice_bounds-supported_infinitive-end-2 c = let f = long (goal.at.slice_bounds-s
 
 pub returns-then-lemma : goal.returns-then-lemma
 returns-then-lemma c =
-    let t = c in
-    let b = t in
-    let d = b in
-    let a = d.args in
-    first_found a.sheet.now a.word.now (asked (goal.at.returns-then-lemma c).Else-not-is_verb) _ b.supported_infinitive-lemma.ensures t.if-lemma.true _ c.form_with.ensures
+    let a = c.args in
+    first_found a.sheet.now a.word.now (asked (goal.at.returns-then-lemma c).Else-not-is_verb) _ c.supported_infinitive-lemma.ensures c.if-lemma.true _ c.form_with.ensures
 
 pub slice_bounds-begins_with-end : goal.slice_bounds-begins_with-end
 slice_bounds-begins_with-end c = let f = long (goal.at.slice_bounds-begins_with-end c).Else-not-is_verb in sym (length-take-le _ _ (omega arith))
 
 pub returns-then-not-begins_with : goal.returns-then-not-begins_with
 returns-then-not-begins_with c =
-    let t = c in
-    let d = t in
-    let a = d.args in
-    none-form a.sheet.now a.word.now _ (no_na a.sheet.now a.word.now (left (goal.at.returns-then-not-begins_with c).Else-lemma) (sym t.begins_with.ensures ∙ t.if-not-begins_with.true)) c.no_form-then-not-begins_with.ensures
+    let a = c.args in
+    none-form a.sheet.now a.word.now _ (no_na a.sheet.now a.word.now (left (goal.at.returns-then-not-begins_with c).Else-lemma) (sym c.begins_with.ensures ∙ c.if-not-begins_with.true)) c.no_form-then-not-begins_with.ensures
 
 pub slice_bounds-supported_infinitive-count : goal.slice_bounds-supported_infinitive-count
 slice_bounds-supported_infinitive-count c = let f = stem_long (goal.at.slice_bounds-supported_infinitive-count c).Else-not-begins_with in omega arith
@@ -123,18 +114,10 @@ slice_bounds-supported_infinitive-start-2 c = omega (arith, stem_long (goal.at.s
 
 pub returns-then-not-positive : goal.returns-then-not-positive
 returns-then-not-positive c =
-    let t = c in
-    let l = t in
-    let e = l in
-    let d = e in
-    let a = d.args in
-    none-form a.sheet.now a.word.now _ (second_none a.sheet.now a.word.now (left (goal.at.returns-then-not-positive c).Else-lemma) (na (goal.at.returns-then-not-positive c).Else-not-begins_with) _ (positive (goal.at.returns-then-not-positive c).After-supported_infinitive-positive) (not-true _ t.if-not-positive.true)) c.no_form-then-not-positive.ensures
+    let a = c.args in
+    none-form a.sheet.now a.word.now _ (second_none a.sheet.now a.word.now (left (goal.at.returns-then-not-positive c).Else-lemma) (na (goal.at.returns-then-not-positive c).Else-not-begins_with) _ (positive (goal.at.returns-then-not-positive c).After-supported_infinitive-positive) (not-true _ c.if-not-positive.true)) c.no_form-then-not-positive.ensures
 
 pub returns : goal.returns
 returns c =
-    let t = c in
-    let l = t in
-    let e = l in
-    let d = e in
-    let a = d.args in
-    second_found a.sheet.now a.word.now (left (goal.at.returns c).Else-lemma) (na (goal.at.returns c).Else-not-begins_with) _ (positive (goal.at.returns c).After-supported_infinitive-positive) (not-false _ t.if-not-positive.false) _ c.form_with-2.ensures
+    let a = c.args in
+    second_found a.sheet.now a.word.now (left (goal.at.returns c).Else-lemma) (na (goal.at.returns c).Else-not-begins_with) _ (positive (goal.at.returns c).After-supported_infinitive-positive) (not-false _ c.if-not-positive.false) _ c.form_with-2.ensures

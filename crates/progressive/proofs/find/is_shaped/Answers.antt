@@ -22,18 +22,14 @@ overflow_sub-n c = rahek-fits c.args.word.now (ended (goal.at.overflow_sub-n c).
 
 pub slice_bounds-ends_with-end : goal.slice_bounds-ends_with-end
 slice_bounds-ends_with-end c =
-    let d = c in
-    sym (length-take-le _ _ (omega (arith, rahek-fits d.args.word.now (ended (goal.at.slice_bounds-ends_with-end c).Else-not-ends_in_rahek))))
+    sym (length-take-le _ _ (omega (arith, rahek-fits c.args.word.now (ended (goal.at.slice_bounds-ends_with-end c).Else-not-ends_in_rahek))))
 
 pub returns-then-ends_with : goal.returns-then-ends_with
 returns-then-ends_with c =
-    let d = c in
-    let w = d.args.word.now in
+    let w = c.args.word.now in
     first_of _ _ (sym c.ends_with.ensures ∙ c.if-ends_with.true) ∙ sym (shaped_by w (ended (goal.at.returns-then-ends_with c).Else-not-ends_in_rahek))
 
 pub returns : goal.returns
 returns c =
-    let e = c in
-    let d = e in
-    let w = d.args.word.now in
-    c.ends_with-2.ensures ∙ second_of _ _ (sym e.ends_with.ensures ∙ e.if-ends_with.false) ∙ sym (shaped_by w (ended (goal.at.returns c).Else-not-ends_in_rahek))
+    let w = c.args.word.now in
+    c.ends_with-2.ensures ∙ second_of _ _ (sym c.ends_with.ensures ∙ c.if-ends_with.false) ∙ sym (shaped_by w (ended (goal.at.returns c).Else-not-ends_in_rahek))

@@ -13,7 +13,6 @@ returns-then-not-link c =
 
 pub returns : goal.returns
 returns c =
-    let e = c in
-    let a = e.args in
+    let a = c.args in
     let s = a.sheet.now in
-    subst (λ (m : Lemma). LemmaAt s m c.verb_at.result) (told-verb s a.link (not-false _ e.if-not-link.false)) c.verb_at.ensures
+    subst (λ (m : Lemma). LemmaAt s m c.verb_at.result) (told-verb s a.link (not-false _ c.if-not-link.false)) c.verb_at.ensures

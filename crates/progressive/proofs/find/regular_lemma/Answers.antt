@@ -23,8 +23,7 @@ shut : (c : Else-closed) →
     let a = c.args in
     regular (reply a.sheet.now) a.linked.now a.stem.now ≡ after_closed a.sheet.now a.linked.now a.stem.now
 shut c =
-    let d = c in
-    let a = d.args in
+    let a = c.args in
     opened (up-Else-open _ _ _ c.before.before.before.before.before) ∙ closed_next a.sheet.now a.linked.now a.stem.now _ c.verb_at-closed.ensures c.if-closed.false
 
 -- the stem ends in ा or आ
@@ -38,44 +37,32 @@ vowels c =
 
 pub returns-then-open : goal.returns-then-open
 returns-then-open c =
-    let b = c in
-    let a = b.args in
-    open_found a.sheet.now a.linked.now a.stem.now _ b.verb_at-open.ensures c.if-open.true
+    let a = c.args in
+    open_found a.sheet.now a.linked.now a.stem.now _ c.verb_at-open.ensures c.if-open.true
 
 pub returns-then-closed : goal.returns-then-closed
 returns-then-closed c =
-    let b = c in
-    let d = b in
-    let a = d.args in
+    let a = c.args in
     let s = a.sheet.now in
-    subst (λ (l : Lemma). LemmaAt s l b.verb_at-closed.result) (sym (opened (goal.at.returns-then-closed c).Else-open)) (closed_found s a.linked.now a.stem.now _ b.verb_at-closed.ensures c.if-closed.true)
+    subst (λ (l : Lemma). LemmaAt s l c.verb_at-closed.result) (sym (opened (goal.at.returns-then-closed c).Else-open)) (closed_found s a.linked.now a.stem.now _ c.verb_at-closed.ensures c.if-closed.true)
 
 pub returns-then-not-ends_in_aa : goal.returns-then-not-ends_in_aa
 returns-then-not-ends_in_aa c =
-    let t = c in
-    let d = t in
-    let a = d.args in
+    let a = c.args in
     let s = a.sheet.now in
-    let e = without_vowel s a.linked.now a.stem.now (sym t.ends_in_aa.ensures ∙ t.if-not-ends_in_aa.true) in
+    let e = without_vowel s a.linked.now a.stem.now (sym c.ends_in_aa.ensures ∙ c.if-not-ends_in_aa.true) in
     subst (λ (l : Lemma). LemmaAt s l c.verb_at.result) (sym (shut (goal.at.returns-then-not-ends_in_aa c).Else-closed ∙ e)) c.verb_at.ensures
 
 pub returns-then-vowel : goal.returns-then-vowel
 returns-then-vowel c =
-    let b = c in
-    let t = b in
-    let d = t in
-    let a = d.args in
+    let a = c.args in
     let s = a.sheet.now in
-    let r = b.verb_at-vowel.result in
-    subst (λ (l : Lemma). LemmaAt s l r) (sym (shut (goal.at.returns-then-vowel c).Else-closed ∙ vowels (goal.at.returns-then-vowel c).Else-not-ends_in_aa)) (verb-first s r _ (last s a.linked.now a.stem.now) b.verb_at-vowel.ensures c.if-vowel.true)
+    let r = c.verb_at-vowel.result in
+    subst (λ (l : Lemma). LemmaAt s l r) (sym (shut (goal.at.returns-then-vowel c).Else-closed ∙ vowels (goal.at.returns-then-vowel c).Else-not-ends_in_aa)) (verb-first s r _ (last s a.linked.now a.stem.now) c.verb_at-vowel.ensures c.if-vowel.true)
 
 pub returns : goal.returns
 returns c =
-    let f = c in
-    let b = f in
-    let t = b in
-    let d = t in
-    let a = d.args in
+    let a = c.args in
     let s = a.sheet.now in
-    let e = verb_next s b.verb_at-vowel.result _ (last s a.linked.now a.stem.now) b.verb_at-vowel.ensures f.if-vowel.false in
+    let e = verb_next s c.verb_at-vowel.result _ (last s a.linked.now a.stem.now) c.verb_at-vowel.ensures c.if-vowel.false in
     subst (λ (l : Lemma). LemmaAt s l c.verb_at-2.result) (sym (shut (goal.at.returns c).Else-closed ∙ vowels (goal.at.returns c).Else-not-ends_in_aa ∙ e)) c.verb_at-2.ensures

@@ -18,10 +18,8 @@ returns-then-stem-eq0 c =
 
 pub returns-then-ends_with : goal.returns-then-ends_with
 returns-then-ends_with c =
-    let b = c in
-    let d = b in
-    let a = d.args in
-    no-lemma a.sheet.now _ (bare-stem a.sheet.now a.linked.now a.stem.now d.if-stem-eq0.false (sym b.ends_with.ensures ∙ c.if-ends_with.true))
+    let a = c.args in
+    no-lemma a.sheet.now _ (bare-stem a.sheet.now a.linked.now a.stem.now c.if-stem-eq0.false (sym c.ends_with.ensures ∙ c.if-ends_with.true))
 
 -- the stem does not end in ्
 whole : (c : Else-ends_with) → ends_in virama c.args.stem.now ≡ false
@@ -33,25 +31,19 @@ decides : (c : After-link_of-link) →
     lemma_of (reply a.sheet.now) a.linked.now a.stem.now
     ≡ decided (reply a.sheet.now) a.linked.now a.stem.now (text_at a.sheet.now c.link_of-link.result)
 decides c =
-    let b = c in
-    let d = b in
-    let a = d.args in
-    by_reply a.sheet.now a.linked.now a.stem.now _ c.link_of-link.ensures.reads d.if-stem-eq0.false (whole (up-Else-ends_with _ _ _ c.before.before))
+    let a = c.args in
+    by_reply a.sheet.now a.linked.now a.stem.now _ c.link_of-link.ensures.reads c.if-stem-eq0.false (whole (up-Else-ends_with _ _ _ c.before.before))
 
 pub returns-then-link : goal.returns-then-link
 returns-then-link c =
-    let n = c in
-    let l = n in
-    let a = l.args in
+    let a = c.args in
     let s = a.sheet.now in
-    subst (λ (m : Lemma). LemmaAt s m n.linked_verb-named.result)
-    (linked_found s a.linked.now a.stem.now l.link_of-link.result c.if-link.true ∙ sym (decides (goal.at.returns-then-link c).After-link_of-link)) n.linked_verb-named.ensures
+    subst (λ (m : Lemma). LemmaAt s m c.linked_verb-named.result)
+    (linked_found s a.linked.now a.stem.now c.link_of-link.result c.if-link.true ∙ sym (decides (goal.at.returns-then-link c).After-link_of-link)) c.linked_verb-named.ensures
 
 pub returns : goal.returns
 returns c =
-    let e = c in
-    let l = e in
-    let a = l.args in
+    let a = c.args in
     let s = a.sheet.now in
     subst (λ (m : Lemma). LemmaAt s m c.regular_lemma.result)
-    (linked_next s a.linked.now a.stem.now l.link_of-link.result e.if-link.false ∙ sym (decides (goal.at.returns c).After-link_of-link)) c.regular_lemma.ensures
+    (linked_next s a.linked.now a.stem.now c.link_of-link.result c.if-link.false ∙ sym (decides (goal.at.returns c).After-link_of-link)) c.regular_lemma.ensures

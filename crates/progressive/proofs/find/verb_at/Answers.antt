@@ -11,6 +11,5 @@ returns-then-not-is_verb c =
 
 pub returns : goal.returns
 returns c =
-    let d = c in
-    let a = d.args in
-    verb-named a.sheet.now _ (a.p.now ++ a.q.now) (sym d.is_verb.ensures ∙ d.if-not-is_verb.false) c.spot_of.ensures
+    let a = c.args in
+    verb-named a.sheet.now _ (a.p.now ++ a.q.now) (sym c.is_verb.ensures ∙ c.if-not-is_verb.false) c.spot_of.ensures

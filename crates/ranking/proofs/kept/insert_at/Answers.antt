@@ -32,28 +32,23 @@ carried : (xs ys : List Reading) (i : ℕ) (a b : Reading) → i < length xs →
 carried xs ys i a b h p q = ap (λ (l : List Reading). put_in l (i + 1) b) p ∙ ap (λ (x : Reading). put_in (set xs i a) (i + 1) x) q ∙ carry_on xs i a no_reading h
 
 pub loop-i-preserved : goal.loop-i-preserved
-loop-i-preserved c =
-    let s = c in
-    let t = s in
-    let k = t in (
-      omega arith,
-      omega arith,
-      k.loop-i.invariant.2,
-      search rules,
-      search rules,
-      carried (rows_in k.loop-i.out) _ k.loop-i.i k.loop-i.carry _ (omega (arith, rows-length k.loop-i.out)) s.set_row.ensures t.row_at-x.ensures ∙ k.loop-i.invariant.5,
-    )
+loop-i-preserved c = (
+  omega arith,
+  omega arith,
+  c.loop-i.invariant.2,
+  search rules,
+  search rules,
+  carried (rows_in c.loop-i.out) _ c.loop-i.i c.loop-i.carry _ (omega (arith, rows-length c.loop-i.out)) c.set_row.ensures c.row_at-x.ensures ∙ c.loop-i.invariant.5,
+)
 
 pub set_row-requires-2 : goal.set_row-requires-2
-set_row-requires-2 c = let k = c in (k.loop-i.invariant.3, k.loop-i.invariant.2)
+set_row-requires-2 c = (c.loop-i.invariant.3, c.loop-i.invariant.2)
 
 pub returns : goal.returns
 returns c =
-    let s = c in
-    let k = s in
-    let a = k.args in
-    let e : a.n ≡ k.loop-i.i = omega arith in
-    ap (λ (l : List Reading). take (a.n + 1) l) s.set_row-2.ensures
-    ∙ carried_last (rows_in k.loop-i.out) a.n k.loop-i.carry (omega (arith, rows-length k.loop-i.out))
-    ∙ ap (take (a.n + 1)) (ap (λ (j : ℕ). put_in (rows_in k.loop-i.out) j k.loop-i.carry) e ∙ k.loop-i.invariant.5)
-    ∙ put_front (rows_in a.out.now) a.at a.n a.r k.requires.1 (omega (arith, rows-length a.out.now))
+    let a = c.args in
+    let e : a.n ≡ c.loop-i.i = omega arith in
+    ap (λ (l : List Reading). take (a.n + 1) l) c.set_row-2.ensures
+    ∙ carried_last (rows_in c.loop-i.out) a.n c.loop-i.carry (omega (arith, rows-length c.loop-i.out))
+    ∙ ap (take (a.n + 1)) (ap (λ (j : ℕ). put_in (rows_in c.loop-i.out) j c.loop-i.carry) e ∙ c.loop-i.invariant.5)
+    ∙ put_front (rows_in a.out.now) a.at a.n a.r c.requires.1 (omega (arith, rows-length a.out.now))

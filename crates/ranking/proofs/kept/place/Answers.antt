@@ -24,9 +24,8 @@ module _ (c : After-ahead) where
 
 pub returns-then-ahead : goal.returns-then-ahead
 returns-then-ahead c =
-    let k = c in
-    let a = k.args in
-    let q = scan_next (rows_in a.out.now) a.n no_reading (omega (arith, rows-length a.out.now)) k.loop-i.i c.loop-i-test.true in
+    let a = c.args in
+    let q = scan_next (rows_in a.out.now) a.n no_reading (omega (arith, rows-length a.out.now)) c.loop-i.i c.loop-i-test.true in
     let z = ap (place_in a.word.now a.r) q ∙ place_here a.word.now a.r _ _ (sym (told (goal.at.returns-then-ahead c).After-ahead) ∙ c.if-ahead.true) in
     (omega arith, omega arith)
 
@@ -38,15 +37,13 @@ loop-i-smaller c = omega arith
 
 pub loop-i-preserved : goal.loop-i-preserved
 loop-i-preserved c =
-    let k = c in
-    let a = k.args in
-    let q = scan_next (rows_in a.out.now) a.n no_reading (omega (arith, rows-length a.out.now)) k.loop-i.i c.loop-i-test.true in
+    let a = c.args in
+    let q = scan_next (rows_in a.out.now) a.n no_reading (omega (arith, rows-length a.out.now)) c.loop-i.i c.loop-i-test.true in
     let z = ap (place_in a.word.now a.r) q ∙ place_next a.word.now a.r _ _ (sym (told (goal.at.loop-i-preserved c).After-ahead) ∙ c.if-ahead.false) in
-    (omega arith, k.loop-i.invariant.1, k.loop-i.invariant.2, omega arith)
+    (omega arith, c.loop-i.invariant.1, c.loop-i.invariant.2, omega arith)
 
 pub returns : goal.returns
 returns c =
-    let k = c in
-    let a = k.args in
-    let z = ap (place_in a.word.now a.r) (scan-end (rows_in a.out.now) a.n no_reading (omega (arith, rows-length a.out.now)) k.loop-i.i c.loop-i-test.false) ∙ place_none a.word.now a.r in
+    let a = c.args in
+    let z = ap (place_in a.word.now a.r) (scan-end (rows_in a.out.now) a.n no_reading (omega (arith, rows-length a.out.now)) c.loop-i.i c.loop-i-test.false) ∙ place_none a.word.now a.r in
     (omega arith, omega arith)

@@ -10,8 +10,5 @@ returns-then-n-ge-LIMIT c =
 
 pub returns : goal.returns
 returns c =
-    let i = c in
-    let p = i in
-    let e = p in
-    let a = e.args in
-    (kept-room a.word.now a.out.now _ a.n a.r p.place-at.result (omega (arith, e.if-n-ge-LIMIT.false)) p.place-at.ensures.0 i.insert_at.ensures, omega (arith, e.if-n-ge-LIMIT.false))
+    let a = c.args in
+    (kept-room a.word.now a.out.now _ a.n a.r c.place-at.result (omega (arith, c.if-n-ge-LIMIT.false)) c.place-at.ensures.0 c.insert_at.ensures, omega (arith, c.if-n-ge-LIMIT.false))

@@ -4,12 +4,5 @@ use Rattle.ranking.proofs.rows.get_reading.Goals as goal
 
 pub returns : goal.returns
 returns c =
-    let m = c in
-    let l = m in
-    let k = l in
-    let j = k in
-    let h = j in
-    let g = h in
-    let f = g in
-    reading_parts f.args.row.now f.two_at-stem.ensures g.two_at-root.ensures h.two_at-score.ensures
-    j.segment_at-first.ensures k.segment_at-second.ensures l.segment_at-third.ensures m.segment_at-fourth.ensures
+    reading_parts c.args.row.now c.two_at-stem.ensures c.two_at-root.ensures c.two_at-score.ensures
+    c.segment_at-first.ensures c.segment_at-second.ensures c.segment_at-third.ensures c.segment_at-fourth.ensures

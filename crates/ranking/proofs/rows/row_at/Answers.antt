@@ -9,6 +9,5 @@ use Rattle.ranking.proofs.rows.row_at.Goals as goal
 
 pub returns : goal.returns
 returns c =
-    let a = c in
-    let k : reading_width * a.args.i + reading_width - reading_width * a.args.i ≡ reading_width = omega arith in
-    c.get_reading.ensures ∙ ap (λ (n : ℕ). reading_at (take n (drop (reading_width * a.args.i) a.args.out.now))) k ∙ row_read a.args.out.now a.args.i a.requires.1
+    let k : reading_width * c.args.i + reading_width - reading_width * c.args.i ≡ reading_width = omega arith in
+    c.get_reading.ensures ∙ ap (λ (n : ℕ). reading_at (take n (drop (reading_width * c.args.i) c.args.out.now))) k ∙ row_read c.args.out.now c.args.i c.requires.1

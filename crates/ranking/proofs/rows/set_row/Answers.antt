@@ -6,8 +6,6 @@ use Rattle.ranking.proofs.rows.set_row.Goals as goal
 
 pub returns : goal.returns
 returns c =
-    let p = c in
-    let a = p in
-    let l : length a.args.r.prefixes ≡ 2 = a.well_formed.0.1.1.1.1.1.0.1.0.1 in
-    let m : length a.args.r.segments ≡ 4 = a.well_formed.0.1.1.1.1.1.1.0.1.0.1 in
-    row-set a.args.out.now _ a.args.i a.args.r a.requires.0 a.requires.1 l m p.put_reading.ensures
+    let l : length c.args.r.prefixes ≡ 2 = c.well_formed.0.1.1.1.1.1.0.1.0.1 in
+    let m : length c.args.r.segments ≡ 4 = c.well_formed.0.1.1.1.1.1.1.0.1.0.1 in
+    row-set c.args.out.now _ c.args.i c.args.r c.requires.0 c.requires.1 l m c.put_reading.ensures

@@ -6,24 +6,18 @@ use Rattle.referred.proofs.entry.codes_in.Goals as goal
 
 pub returns-then-out-n : goal.returns-then-out-n
 returns-then-out-n c =
-    let f = c in
-    (short f.args.sheet.now f.args.found.now _ _ f.find_in-n.ensures.0 f.find_in-n.ensures.1 f.args.out.now c.if-out-n.true, refl)
+    (short c.args.sheet.now c.args.found.now _ _ c.find_in-n.ensures.0 c.find_in-n.ensures.1 c.args.out.now c.if-out-n.true, refl)
 
 pub slice_bounds-copy_codes-end : goal.slice_bounds-copy_codes-end
-slice_bounds-copy_codes-end c = let f = c in inside f.args.sheet.now f.args.found.now _ _ f.find_in-n.ensures.0 f.find_in-n.ensures.1
+slice_bounds-copy_codes-end c = inside c.args.sheet.now c.args.found.now _ _ c.find_in-n.ensures.0 c.find_in-n.ensures.1
 
 pub slice_bounds-copy_codes-end-2 : goal.slice_bounds-copy_codes-end-2
-slice_bounds-copy_codes-end-2 c = let f = c in sym (length-take-le _ _ (inside f.args.sheet.now f.args.found.now _ _ f.find_in-n.ensures.0 f.find_in-n.ensures.1))
+slice_bounds-copy_codes-end-2 c = sym (length-take-le _ _ (inside c.args.sheet.now c.args.found.now _ _ c.find_in-n.ensures.0 c.find_in-n.ensures.1))
 
 pub copy_codes-requires : goal.copy_codes-requires
 copy_codes-requires c =
-    let e = c in
-    let f = e in
-    part_room _ _ f.args.out.now (inside f.args.sheet.now f.args.found.now _ _ f.find_in-n.ensures.0 f.find_in-n.ensures.1) e.if-out-n.false
+    part_room _ _ c.args.out.now (inside c.args.sheet.now c.args.found.now _ _ c.find_in-n.ensures.0 c.find_in-n.ensures.1) c.if-out-n.false
 
 pub returns : goal.returns
 returns c =
-    let y = c in
-    let e = y in
-    let f = e in
-    fits f.args.sheet.now f.args.found.now _ _ f.find_in-n.ensures.0 f.find_in-n.ensures.1 _ _ e.if-out-n.false y.copy_codes.ensures
+    fits c.args.sheet.now c.args.found.now _ _ c.find_in-n.ensures.0 c.find_in-n.ensures.1 _ _ c.if-out-n.false c.copy_codes.ensures

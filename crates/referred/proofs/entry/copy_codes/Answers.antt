@@ -27,9 +27,8 @@ loop-i-smaller c = omega arith
 
 pub loop-i-preserved : goal.loop-i-preserved
 loop-i-preserved c =
-    let l = c in
-    let k = l.loop-i.invariant in
-    copied_more _ _ _ _ k.0 k.1 k.2 k.3 l.loop-i-test.true l.requires
+    let k = c.loop-i.invariant in
+    copied_more _ _ _ _ k.0 k.1 k.2 k.3 c.loop-i-test.true c.requires
 
 pub shape_of-out : goal.shape_of-out
 shape_of-out c = c.loop-i.invariant.1

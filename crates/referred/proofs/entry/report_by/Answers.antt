@@ -9,32 +9,22 @@ use Rattle.referred.proofs.Answered.{part_room, report_refused, report_given}
 use Rattle.referred.proofs.entry.report_by.Goals as goal
 
 pub slice_bounds-report_in-end : goal.slice_bounds-report_in-end
-slice_bounds-report_in-end c = let k = c in (indexed _ _ _ k.prepare_sheet-ready.result k.prepare_sheet-ready.ensures c.in-Accepted.is).0
+slice_bounds-report_in-end c = (indexed _ _ _ c.prepare_sheet-ready.result c.prepare_sheet-ready.ensures c.in-Accepted.is).0
 
 pub slice_bounds-report_in-end-in-Accepted : goal.slice_bounds-report_in-end-in-Accepted
 slice_bounds-report_in-end-in-Accepted c =
-    let e = c in
-    let k = e in
-    sym (length-take-le _ _ (indexed _ _ _ k.prepare_sheet-ready.result k.prepare_sheet-ready.ensures e.in-Accepted.is).0)
+    sym (length-take-le _ _ (indexed _ _ _ c.prepare_sheet-ready.result c.prepare_sheet-ready.ensures c.in-Accepted.is).0)
 
 pub report_in-requires : goal.report_in-requires
 report_in-requires c =
-    let e = c in
-    let k = e in
-    let i = indexed _ _ _ k.prepare_sheet-ready.result k.prepare_sheet-ready.ensures e.in-Accepted.is in
-    let a = k in
-    let l : k.prepare_sheet-ready.result.lines ≤ length a.args.found.now = omega (arith, i.0, a.requires.1) in
-    (i.1, part_room _ _ a.args.found.now i.0 l)
+    let i = indexed _ _ _ c.prepare_sheet-ready.result c.prepare_sheet-ready.ensures c.in-Accepted.is in
+    let l : c.prepare_sheet-ready.result.lines ≤ length c.args.found.now = omega (arith, i.0, c.requires.1) in
+    (i.1, part_room _ _ c.args.found.now i.0 l)
 
 pub returns-in-Refused : goal.returns-in-Refused
 returns-in-Refused c =
-    let i = c in
-    let k = i in
-    report_refused _ _ k.prepare_sheet-ready.ensures.said _ i.in-Refused.is _
+    report_refused _ _ c.prepare_sheet-ready.ensures.said _ c.in-Refused.is _
 
 pub returns-in-Accepted : goal.returns-in-Accepted
 returns-in-Accepted c =
-    let r = c in
-    let e = r in
-    let k = e in
-    report_given _ _ k.prepare_sheet-ready.ensures.said e.in-Accepted.is _ _ _ r.report_in.ensures
+    report_given _ _ c.prepare_sheet-ready.ensures.said c.in-Accepted.is _ _ _ c.report_in.ensures

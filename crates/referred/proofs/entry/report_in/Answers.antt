@@ -8,20 +8,15 @@ use Rattle.referred.proofs.Answered.{inside, front}
 use Rattle.referred.proofs.entry.report_in.Goals as goal
 
 pub slice_bounds-write_report-end : goal.slice_bounds-write_report-end
-slice_bounds-write_report-end c = let f = c in inside f.args.sheet.now f.args.found.now _ _ f.find_in-n.ensures.0 f.find_in-n.ensures.1
+slice_bounds-write_report-end c = inside c.args.sheet.now c.args.found.now _ _ c.find_in-n.ensures.0 c.find_in-n.ensures.1
 
 pub slice_bounds-write_report-end-2 : goal.slice_bounds-write_report-end-2
-slice_bounds-write_report-end-2 c = let f = c in sym (length-take-le _ _ (inside f.args.sheet.now f.args.found.now _ _ f.find_in-n.ensures.0 f.find_in-n.ensures.1))
+slice_bounds-write_report-end-2 c = sym (length-take-le _ _ (inside c.args.sheet.now c.args.found.now _ _ c.find_in-n.ensures.0 c.find_in-n.ensures.1))
 
 pub write_report-requires : goal.write_report-requires
 write_report-requires c =
-    let f = c in
-    let a = f in
-    subst (FormsAt a.args.sheet.now) (sym (front f.args.sheet.now f.args.found.now _ _ f.find_in-n.ensures.0 f.find_in-n.ensures.1)) (forms-coded _ a.requires.0.accepted)
+    subst (FormsAt c.args.sheet.now) (sym (front c.args.sheet.now c.args.found.now _ _ c.find_in-n.ensures.0 c.find_in-n.ensures.1)) (forms-coded _ c.requires.0.accepted)
 
 pub returns : goal.returns
 returns c =
-    let w = c in
-    let f = w in
-    let a = f in
-    answer_as (ap (coded_text a.args.sheet.now) (front f.args.sheet.now f.args.found.now _ _ f.find_in-n.ensures.0 f.find_in-n.ensures.1) ∙ text-coded _) w.write_report.ensures
+    answer_as (ap (coded_text c.args.sheet.now) (front c.args.sheet.now c.args.found.now _ _ c.find_in-n.ensures.0 c.find_in-n.ensures.1) ∙ text-coded _) c.write_report.ensures

@@ -14,13 +14,10 @@ line_fault-requires c =
 
 pub code_of-requires : goal.code_of-requires
 code_of-requires c =
-    let w = c in
-    let p = w.requires in
-    rw w.wide-at.ensures (start_small _ _ _ p.0 p.2)
+    let p = c.requires in
+    rw c.wide-at.ensures (start_small _ _ _ p.0 p.2)
 
 pub returns : goal.returns
 returns c =
-    let l = c in
-    let w = l in
-    let a = w.args in
-    c.code_of.ensures ∙ ap (code_for w.wide-at.result) l.line_fault.ensures ∙ ap (λ (x : ℕ). code_for x (fault_at a.sheet.now x)) w.wide-at.ensures
+    let a = c.args in
+    c.code_of.ensures ∙ ap (code_for c.wide-at.result) c.line_fault.ensures ∙ ap (λ (x : ℕ). code_for x (fault_at a.sheet.now x)) c.wide-at.ensures

@@ -14,15 +14,12 @@ loop-i-init c = kept-none _ _ _
 
 pub code_at-code-requires : goal.code_at-code-requires
 code_at-code-requires c =
-    let l = c in
-    let s = l in
-    (s.requires.0, record { in_bytes = s.affixes-texts.ensures; in_starts = s.affix_starts-cuts.ensures }, l.loop-i-test.true)
+    (c.requires.0, record { in_bytes = c.affixes-texts.ensures; in_starts = c.affix_starts-cuts.ensures }, c.loop-i-test.true)
 
 pub keep-n-requires : goal.keep-n-requires
 keep-n-requires c =
-    let l = c in
-    let k = l.loop-i.invariant in
-    omega (arith, k.few, k.size, l.loop-i-test.true, l.requires.1)
+    let k = c.loop-i.invariant in
+    omega (arith, k.few, k.size, c.loop-i-test.true, c.requires.1)
 
 pub overflow_add-i : goal.overflow_add-i
 overflow_add-i c = omega arith
@@ -32,18 +29,13 @@ loop-i-smaller c = omega arith
 
 pub loop-i-preserved : goal.loop-i-preserved
 loop-i-preserved c =
-    let q = c in
-    let d = q in
-    let l = d in
-    kept_more _ _ _ _ _ _ l.loop-i.invariant l.loop-i-test.true l.requires.1 _ d.code_at-code.ensures _ _ q.keep-n.ensures.0 q.keep-n.ensures.1
+    kept_more _ _ _ _ _ _ c.loop-i.invariant c.loop-i-test.true c.requires.1 _ c.code_at-code.ensures _ _ c.keep-n.ensures.0 c.keep-n.ensures.1
 
 pub shape_of-out : goal.shape_of-out
 shape_of-out c = c.loop-i.invariant.size
 
 pub returns : goal.returns
 returns c =
-    let l = c in
-    let b = l in
-    let p = b.requires in
-    let s = b.args.sheet.now in
-    subst (λ (x : List ℕ). (l.loop-i.n ≡ length (findings_at s x)) × (l.loop-i.out ≡ codes_of (findings_at s x) ++ drop l.loop-i.n b.args.out.now)) p.0.listed (kept-all s _ _ _ _ _ l.loop-i.invariant c.loop-i-test.false p.1)
+    let p = c.requires in
+    let s = c.args.sheet.now in
+    subst (λ (x : List ℕ). (c.loop-i.n ≡ length (findings_at s x)) × (c.loop-i.out ≡ codes_of (findings_at s x) ++ drop c.loop-i.n c.args.out.now)) p.0.listed (kept-all s _ _ _ _ _ c.loop-i.invariant c.loop-i-test.false p.1)

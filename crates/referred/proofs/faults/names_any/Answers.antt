@@ -10,13 +10,12 @@ pub loop-k-init : goal.loop-k-init
 loop-k-init c = (omega arith, refl)
 
 pub names_text-requires : goal.names_text-requires
-names_text-requires c = let a = c in (a.requires.0, a.requires.1, c.loop-k-test.true)
+names_text-requires c = (c.requires.0, c.requires.1, c.loop-k-test.true)
 
 pub returns-then-names_text : goal.returns-then-names_text
 returns-then-names_text c =
-    let n = c in
-    let l = n.loop-k in
-    sym (l.invariant.1 ∙ text-found _ affixes l.k (omega (arith, affix_count, n.loop-k-test.true)) (sym n.names_text.ensures ∙ c.if-names_text.true))
+    let l = c.loop-k in
+    sym (l.invariant.1 ∙ text-found _ affixes l.k (omega (arith, affix_count, c.loop-k-test.true)) (sym c.names_text.ensures ∙ c.if-names_text.true))
 
 pub overflow_add-k : goal.overflow_add-k
 overflow_add-k c = omega arith
@@ -26,9 +25,8 @@ loop-k-smaller c = omega arith
 
 pub loop-k-preserved : goal.loop-k-preserved
 loop-k-preserved c =
-    let n = c in
-    let l = n.loop-k in
-    (omega arith, l.invariant.1 ∙ text_next _ affixes l.k (omega (arith, affix_count, n.loop-k-test.true)) (sym n.names_text.ensures ∙ c.if-names_text.false))
+    let l = c.loop-k in
+    (omega arith, l.invariant.1 ∙ text_next _ affixes l.k (omega (arith, affix_count, c.loop-k-test.true)) (sym c.names_text.ensures ∙ c.if-names_text.false))
 
 pub returns : goal.returns
 returns c = let l = c.loop-k in sym (l.invariant.1 ∙ text-none _ affixes l.k (omega (arith, affix_count, c.loop-k-test.false)))

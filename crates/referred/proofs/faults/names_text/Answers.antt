@@ -12,21 +12,12 @@ row-requires c = laid-asks c.requires.1 _ (omega (arith, affix_count))
 
 pub returns-in-Less : goal.returns-in-Less
 returns-in-Less c =
-    let o = c in
-    let r = o in
-    let a = r in
-    named-told (key (line_at a.args.sheet.now a.args.at)) _ _ _ _ _ _ a.requires.1 a.requires.2 r.row.ensures o.line_order-order.ensures c.in-Less.is
+    named-told (key (line_at c.args.sheet.now c.args.at)) _ _ _ _ _ _ c.requires.1 c.requires.2 c.row.ensures c.line_order-order.ensures c.in-Less.is
 
 pub returns-in-Equal : goal.returns-in-Equal
 returns-in-Equal c =
-    let o = c in
-    let r = o in
-    let a = r in
-    named-told (key (line_at a.args.sheet.now a.args.at)) _ _ _ _ _ _ a.requires.1 a.requires.2 r.row.ensures o.line_order-order.ensures c.in-Equal.is
+    named-told (key (line_at c.args.sheet.now c.args.at)) _ _ _ _ _ _ c.requires.1 c.requires.2 c.row.ensures c.line_order-order.ensures c.in-Equal.is
 
 pub returns-in-Greater : goal.returns-in-Greater
 returns-in-Greater c =
-    let o = c in
-    let r = o in
-    let a = r in
-    named-told (key (line_at a.args.sheet.now a.args.at)) _ _ _ _ _ _ a.requires.1 a.requires.2 r.row.ensures o.line_order-order.ensures c.in-Greater.is
+    named-told (key (line_at c.args.sheet.now c.args.at)) _ _ _ _ _ _ c.requires.1 c.requires.2 c.row.ensures c.line_order-order.ensures c.in-Greater.is

@@ -18,17 +18,12 @@ value c =
 
 pub returns-then-not-v : goal.returns-then-not-v
 returns-then-not-v c =
-    let v = c in
     ap verb_fault (unread _ 0x77 _ _ (value (goal.at.returns-then-not-v c).After-value_of-v) (not-true _ c.if-not-v.true))
 
 pub returns-then-letters : goal.returns-then-letters
 returns-then-letters c =
-    let r = c in
-    let e = r in
-    verb_read _ _ _ (value (goal.at.returns-then-letters c).After-value_of-v) (not-false _ e.if-not-v.false) _ _ r.read_letters-letters.ensures c.if-letters.true
+    verb_read _ _ _ (value (goal.at.returns-then-letters c).After-value_of-v) (not-false _ c.if-not-v.false) _ _ c.read_letters-letters.ensures c.if-letters.true
 
 pub returns : goal.returns
 returns c =
-    let r = c in
-    let e = r in
-    verb_read _ _ _ (value (goal.at.returns c).After-value_of-v) (not-false _ e.if-not-v.false) _ _ r.read_letters-letters.ensures c.if-letters.false
+    verb_read _ _ _ (value (goal.at.returns c).After-value_of-v) (not-false _ c.if-not-v.false) _ _ c.read_letters-letters.ensures c.if-letters.false

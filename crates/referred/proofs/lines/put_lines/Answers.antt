@@ -15,9 +15,7 @@ bounds-codes-i c = omega arith
 
 pub put_line-next-requires : goal.put_line-next-requires
 put_line-next-requires c =
-    let l = c in
-    let a = l in
-    form-there a.args.sheet.now a.args.codes.now l.loop-i.i a.requires l.loop-i-test.true
+    form-there c.args.sheet.now c.args.codes.now c.loop-i.i c.requires c.loop-i-test.true
 
 pub overflow_add-i : goal.overflow_add-i
 overflow_add-i c = omega arith
@@ -27,9 +25,7 @@ loop-i-smaller c = omega arith
 
 pub loop-i-preserved : goal.loop-i-preserved
 loop-i-preserved c =
-    let p = c in
-    let l = p in
-    (omega arith, upto-more l.loop-i.invariant.1 p.put_line-next.ensures (lines_turn _ _ l.loop-i.i l.loop-i-test.true))
+    (omega arith, upto-more c.loop-i.invariant.1 c.put_line-next.ensures (lines_turn _ _ c.loop-i.i c.loop-i-test.true))
 
 pub shape_of-out : goal.shape_of-out
 shape_of-out c = c.loop-i.invariant.1.wrote.size

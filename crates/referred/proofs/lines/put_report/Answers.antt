@@ -6,8 +6,4 @@ use Rattle.referred.proofs.lines.put_report.Goals as goal
 pub returns : goal.returns
 unfolding coded_text
 returns c =
-    let p4 = c in
-    let p3 = p4 in
-    let p2 = p3 in
-    let p1 = p2 in
-    put_both p1.put-a.ensures (put_both p2.put_decimal-b.ensures (put_both p3.put-c.ensures p4.put_lines.ensures))
+    put_both c.put-a.ensures (put_both c.put_decimal-b.ensures (put_both c.put-c.ensures c.put_lines.ensures))

@@ -8,5 +8,4 @@ returns-then-out-size c = written-not c.put_report-size.ensures c.if-out-size.tr
 
 pub returns : goal.returns
 returns c =
-    let e = c in
-    written-whole e.put_report-size.ensures e.if-out-size.false (omega arith) c.put_report.ensures
+    written-whole c.put_report-size.ensures c.if-out-size.false (omega arith) c.put_report.ensures

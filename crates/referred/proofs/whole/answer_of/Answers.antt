@@ -6,22 +6,15 @@ use Rattle.referred.proofs.whole.answer_of.Goals as goal
 
 pub returns-in-Wrote : goal.returns-in-Wrote
 returns-in-Wrote c =
-    let w = c in
-    let a = w.args in
-    reported a.sheet.now a.out.now (omega arith) _ _ (sym c.in-Wrote.is ∙ w.write_references-written.ensures.0) w.write_references-written.ensures.1
+    let a = c.args in
+    reported a.sheet.now a.out.now (omega arith) _ _ (sym c.in-Wrote.is ∙ c.write_references-written.ensures.0) c.write_references-written.ensures.1
 
 pub returns-in-Wrote-line : goal.returns-in-Wrote-line
 returns-in-Wrote-line c =
-    let q = c in
-    let g = q in
-    let w = g in
-    let a = w.args in
-    refused a.sheet.now a.out.now (omega arith) _ _ _ (sym g.in-Refused.is ∙ w.write_references-written.ensures.0) w.write_references-written.ensures.1 _ q.write_refused-line.ensures _ c.in-Wrote-line.is
+    let a = c.args in
+    refused a.sheet.now a.out.now (omega arith) _ _ _ (sym c.in-Refused.is ∙ c.write_references-written.ensures.0) c.write_references-written.ensures.1 _ c.write_refused-line.ensures _ c.in-Wrote-line.is
 
 pub returns-in-Refused-line : goal.returns-in-Refused-line
 returns-in-Refused-line c =
-    let q = c in
-    let g = q in
-    let w = g in
-    let a = w.args in
-    absurd (never a.sheet.now a.out.now (omega arith) _ _ _ (sym g.in-Refused.is ∙ w.write_references-written.ensures.0) w.write_references-written.ensures.1 _ q.write_refused-line.ensures _ c.in-Refused-line.is)
+    let a = c.args in
+    absurd (never a.sheet.now a.out.now (omega arith) _ _ _ (sym c.in-Refused.is ∙ c.write_references-written.ensures.0) c.write_references-written.ensures.1 _ c.write_refused-line.ensures _ c.in-Refused-line.is)

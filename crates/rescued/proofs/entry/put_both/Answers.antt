@@ -27,12 +27,9 @@ loop-walk-smaller c = let k = c.next_stretch-reached.ensures in omega (arith, k.
 
 pub loop-walk-preserved : goal.loop-walk-preserved
 loop-walk-preserved c =
-    let q = c in
-    let p = q in
-    let t = p in
-    let k = t.next_stretch-reached.ensures in
-    let l = t.loop-walk in
-    (k.inside, k.standing, upto-more l.invariant.2 p.put_kept-k.ensures (kept_turn _ _ _ k), upto-more l.invariant.3 q.put_cut-n.ensures (report_turn _ _ _ k))
+    let k = c.next_stretch-reached.ensures in
+    let l = c.loop-walk in
+    (k.inside, k.standing, upto-more l.invariant.2 c.put_kept-k.ensures (kept_turn _ _ _ k), upto-more l.invariant.3 c.put_cut-n.ensures (report_turn _ _ _ k))
 
 pub shape_of-kept : goal.shape_of-kept
 shape_of-kept c = c.loop-walk.invariant.2.wrote.size

@@ -12,17 +12,13 @@ returns-then-sheet-gt-SHEET_BYTES c = let a = c.args in long a.sheet.now a.kept.
 
 pub returns-then-kept-sizes : goal.returns-then-kept-sizes
 returns-then-kept-sizes c =
-    let m = c in
-    let e = m in
-    let a = e.args in
-    short-kept a.sheet.now a.kept.now a.report.now e.if-sheet-gt-SHEET_BYTES.false m.put_both-sizes.result m.put_both-sizes.ensures.0 m.put_both-sizes.ensures.1 c.if-kept-sizes.true
+    let a = c.args in
+    short-kept a.sheet.now a.kept.now a.report.now c.if-sheet-gt-SHEET_BYTES.false c.put_both-sizes.result c.put_both-sizes.ensures.0 c.put_both-sizes.ensures.1 c.if-kept-sizes.true
 
 pub returns-then-report-sizes : goal.returns-then-report-sizes
 returns-then-report-sizes c =
-    let m = c in
-    let e = m in
-    let a = e.args in
-    short_report a.sheet.now a.kept.now a.report.now e.if-sheet-gt-SHEET_BYTES.false m.put_both-sizes.result m.put_both-sizes.ensures.0 m.put_both-sizes.ensures.1 c.if-report-sizes.true
+    let a = c.args in
+    short_report a.sheet.now a.kept.now a.report.now c.if-sheet-gt-SHEET_BYTES.false c.put_both-sizes.result c.put_both-sizes.ensures.0 c.put_both-sizes.ensures.1 c.if-report-sizes.true
 
 -- both buffers are shorter than the largest number
 kept_less : (e : Else-sheet-gt-SHEET_BYTES) → length e.args.kept.now < largest
@@ -33,11 +29,6 @@ report_less e = omega arith
 
 pub returns : goal.returns
 returns c =
-    let w = c in
-    let g = w in
-    let f = g in
-    let m = f in
-    let e = m in
-    let a = e.args in
-    both a.sheet.now a.kept.now a.report.now e.if-sheet-gt-SHEET_BYTES.false m.put_both-sizes.result m.put_both-sizes.ensures.0 m.put_both-sizes.ensures.1
-    f.if-kept-sizes.false g.if-report-sizes.false (kept_less (goal.at.returns c).Else-sheet-gt-SHEET_BYTES) (report_less (goal.at.returns c).Else-sheet-gt-SHEET_BYTES) w.put_both.ensures.0 w.put_both.ensures.1
+    let a = c.args in
+    both a.sheet.now a.kept.now a.report.now c.if-sheet-gt-SHEET_BYTES.false c.put_both-sizes.result c.put_both-sizes.ensures.0 c.put_both-sizes.ensures.1
+    c.if-kept-sizes.false c.if-report-sizes.false (kept_less (goal.at.returns c).Else-sheet-gt-SHEET_BYTES) (report_less (goal.at.returns c).Else-sheet-gt-SHEET_BYTES) c.put_both.ensures.0 c.put_both.ensures.1

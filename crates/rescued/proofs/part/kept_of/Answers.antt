@@ -6,6 +6,4 @@ use Rattle.rescued.proofs.part.kept_of.Goals as goal
 
 pub returns : goal.returns
 returns c =
-    let p = c in
-    let a = p in
-    put_whole _ _ _ _ p.put_both-sizes.ensures.0 (omega (arith, a.requires, kept-size a.args.sheet.now)) (omega arith)
+    put_whole _ _ _ _ c.put_both-sizes.ensures.0 (omega (arith, c.requires, kept-size c.args.sheet.now)) (omega arith)

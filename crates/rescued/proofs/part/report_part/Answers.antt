@@ -26,11 +26,7 @@ loop-walk-smaller c = let k = c.next_stretch-reached.ensures in omega (arith, k.
 
 pub loop-walk-preserved : goal.loop-walk-preserved
 loop-walk-preserved c =
-    let q = c in
-    let t = q in
-    let e = t in
-    let l = e in
-    way_more _ _ _ _ _ _ l.loop-walk.invariant l.requires.0 e.loop-walk-test.true e.if-n-gt4072.false _ t.next_stretch-reached.ensures _ _ q.put_cut-n.ensures
+    way_more _ _ _ _ _ _ c.loop-walk.invariant c.requires.0 c.loop-walk-test.true c.if-n-gt4072.false _ c.next_stretch-reached.ensures _ _ c.put_cut-n.ensures
 
 pub shape_of-out : goal.shape_of-out
 shape_of-out c = c.loop-walk.invariant.done.wrote.size

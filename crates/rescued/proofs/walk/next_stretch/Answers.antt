@@ -4,23 +4,16 @@ use Rattle.rescued.proofs.walk.next_stretch.Goals as goal
 
 pub returns-in-End : goal.returns-in-End
 returns-in-End c =
-    let t = c in
-    absurd (at_end _ _ t.requires.0 t.requires.1 _ t.step-line.ensures c.in-End.is)
+    absurd (at_end _ _ c.requires.0 c.requires.1 _ c.step-line.ensures c.in-End.is)
 
 pub returns-in-NoForm : goal.returns-in-NoForm
 returns-in-NoForm c =
-    let q = c in
-    let t = q in
-    at_no_form _ _ t.requires.0 t.requires.1 _ t.step-line.ensures q.in-NoForm.is _ c.line_end.ensures
+    at_no_form _ _ c.requires.0 c.requires.1 _ c.step-line.ensures c.in-NoForm.is _ c.line_end.ensures
 
 pub returns-in-NotAbove : goal.returns-in-NotAbove
 returns-in-NotAbove c =
-    let q = c in
-    let t = q in
-    at_not_above _ _ t.requires.0 t.requires.1 _ t.step-line.ensures q.in-NotAbove.is _ c.line_end-in-NotAbove.ensures
+    at_not_above _ _ c.requires.0 c.requires.1 _ c.step-line.ensures c.in-NotAbove.is _ c.line_end-in-NotAbove.ensures
 
 pub returns-in-Form : goal.returns-in-Form
 returns-in-Form c =
-    let q = c in
-    let t = q in
-    at_form _ _ t.requires.0 t.requires.1 _ t.step-line.ensures _ _ _ _ q.in-Form.is
+    at_form _ _ c.requires.0 c.requires.1 _ c.step-line.ensures _ _ _ _ c.in-Form.is

@@ -16,26 +16,19 @@ step-line-requires c = c.loop-next.invariant.1
 
 pub returns-in-End : goal.returns-in-End
 returns-in-End c =
-    let t = c in
-    let d = t in
-    sym (d.loop-next.invariant.2 ∙ (turn d.args.s.now d.loop-next.walk _ (sym c.in-End.is ∙ t.step-line.ensures)).said)
+    sym (c.loop-next.invariant.2 ∙ (turn c.args.s.now c.loop-next.walk _ (sym c.in-End.is ∙ c.step-line.ensures)).said)
 
 pub returns-in-NoForm : goal.returns-in-NoForm
 returns-in-NoForm c =
-    let t = c in
-    let d = t in
-    sym (d.loop-next.invariant.2 ∙ (turn d.args.s.now d.loop-next.walk _ (sym c.in-NoForm.is ∙ t.step-line.ensures)).said)
+    sym (c.loop-next.invariant.2 ∙ (turn c.args.s.now c.loop-next.walk _ (sym c.in-NoForm.is ∙ c.step-line.ensures)).said)
 
 pub returns-in-NotAbove : goal.returns-in-NotAbove
 returns-in-NotAbove c =
-    let t = c in
-    let d = t in
-    sym (d.loop-next.invariant.2 ∙ (turn d.args.s.now d.loop-next.walk _ (sym c.in-NotAbove.is ∙ t.step-line.ensures)).said)
+    sym (c.loop-next.invariant.2 ∙ (turn c.args.s.now c.loop-next.walk _ (sym c.in-NotAbove.is ∙ c.step-line.ensures)).said)
 
 -- the form that was reached
-form : (c : In-Form) → let d = c in
-    Formed d.args.s.now d.loop-next.walk c.in-Form.letter c.in-Form.name_end c.in-Form.value_end c.in-Form.next
-form c = let d = c in turn d.args.s.now d.loop-next.walk _ (sym c.in-Form.is ∙ c.step-line.ensures)
+form : (c : In-Form) → Formed c.args.s.now c.loop-next.walk c.in-Form.letter c.in-Form.name_end c.in-Form.value_end c.in-Form.next
+form c = turn c.args.s.now c.loop-next.walk _ (sym c.in-Form.is ∙ c.step-line.ensures)
 
 pub loop-next-smaller : goal.loop-next-smaller
 loop-next-smaller c = let f = form (goal.at.loop-next-smaller c).In-Form in omega (arith, f.longer, f.fits)

@@ -12,10 +12,9 @@ loop-i-init c = (omega arith, refl)
 
 pub returns-then-t-i : goal.returns-then-t-i
 returns-then-t-i c =
-    let d = c in
-    let a = d.args in
-    let z = spaced-past a.t.now d.loop-i.i c.if-t-i.true in
-    sym (d.loop-i.invariant.1 ∙ head_ended _ a.p.now d.loop-i.i (omega arith) z)
+    let a = c.args in
+    let z = spaced-past a.t.now c.loop-i.i c.if-t-i.true in
+    sym (c.loop-i.invariant.1 ∙ head_ended _ a.p.now c.loop-i.i (omega arith) z)
 
 pub bounds-t-i : goal.bounds-t-i
 bounds-t-i c = omega arith
@@ -25,24 +24,21 @@ bounds-p-i c = omega arith
 
 pub returns-then-b-eq32 : goal.returns-then-b-eq32
 returns-then-b-eq32 c =
-    let d = c in
-    let a = d.args in
-    let z = spaced-none a.t.now d.loop-i.i (omega arith) c.if-b-eq32.true in
-    sym (d.loop-i.invariant.1 ∙ head_ended _ a.p.now d.loop-i.i (omega arith) z)
+    let a = c.args in
+    let z = spaced-none a.t.now c.loop-i.i (omega arith) c.if-b-eq32.true in
+    sym (c.loop-i.invariant.1 ∙ head_ended _ a.p.now c.loop-i.i (omega arith) z)
 
 pub returns-then-b-y : goal.returns-then-b-y
 returns-then-b-y c =
-    let d = c in
-    let a = d.args in
-    let z = spaced-cons a.t.now d.loop-i.i (omega arith) c.if-b-eq32.false in
-    sym (d.loop-i.invariant.1 ∙ head_less _ a.p.now d.loop-i.i _ _ (omega arith) z c.if-b-y.true)
+    let a = c.args in
+    let z = spaced-cons a.t.now c.loop-i.i (omega arith) c.if-b-eq32.false in
+    sym (c.loop-i.invariant.1 ∙ head_less _ a.p.now c.loop-i.i _ _ (omega arith) z c.if-b-y.true)
 
 pub returns-then-y-b : goal.returns-then-y-b
 returns-then-y-b c =
-    let d = c in
-    let a = d.args in
-    let z = spaced-cons a.t.now d.loop-i.i (omega arith) c.if-b-eq32.false in
-    sym (d.loop-i.invariant.1 ∙ head_greater _ a.p.now d.loop-i.i _ _ (omega arith) z c.if-y-b.true)
+    let a = c.args in
+    let z = spaced-cons a.t.now c.loop-i.i (omega arith) c.if-b-eq32.false in
+    sym (c.loop-i.invariant.1 ∙ head_greater _ a.p.now c.loop-i.i _ _ (omega arith) z c.if-y-b.true)
 
 pub overflow_add-i : goal.overflow_add-i
 overflow_add-i c = omega arith
@@ -52,13 +48,11 @@ loop-i-smaller c = omega arith
 
 pub loop-i-preserved : goal.loop-i-preserved
 loop-i-preserved c =
-    let d = c in
-    let a = d.args in
-    let z = spaced-cons a.t.now d.loop-i.i (omega arith) c.if-b-eq32.false in
-    let y = head_same _ a.p.now d.loop-i.i _ _ (omega arith) z (le_antisymm c.if-y-b.false c.if-b-y.false) in
-    (omega arith, d.loop-i.invariant.1 ∙ y ∙ rw add-one)
+    let a = c.args in
+    let z = spaced-cons a.t.now c.loop-i.i (omega arith) c.if-b-eq32.false in
+    let y = head_same _ a.p.now c.loop-i.i _ _ (omega arith) z (le_antisymm c.if-y-b.false c.if-b-y.false) in
+    (omega arith, c.loop-i.invariant.1 ∙ y ∙ rw add-one)
 
 pub returns : goal.returns
 returns c =
-    let d = c in
-    sym (d.loop-i.invariant.1 ∙ head_all _ d.args.p.now d.loop-i.i (omega arith))
+    sym (c.loop-i.invariant.1 ∙ head_all _ c.args.p.now c.loop-i.i (omega arith))

@@ -14,45 +14,36 @@ use Rattle.sheet.proofs.keys.head_order.Goals as goal
 
 pub overflow_add-own : goal.overflow_add-own
 overflow_add-own c =
-    let d = c in
-    omega (arith, line-fits d.args.sheet.now d.args.at d.requires)
+    omega (arith, line-fits c.args.sheet.now c.args.at c.requires)
 
 pub bounds-sheet-at : goal.bounds-sheet-at
 bounds-sheet-at c =
-    let d = c in
-    omega (arith, line-fits d.args.sheet.now d.args.at d.requires)
+    omega (arith, line-fits c.args.sheet.now c.args.at c.requires)
 
 pub returns-then-own-letter : goal.returns-then-own-letter
 returns-then-own-letter c =
-    let d = c in
-    sym (head_line_less d.args.sheet.now d.args.at d.requires d.args.letter d.args.head.now c.if-own-letter.true)
+    sym (head_line_less c.args.sheet.now c.args.at c.requires c.args.letter c.args.head.now c.if-own-letter.true)
 
 pub returns-then-letter-own : goal.returns-then-letter-own
 returns-then-letter-own c =
-    let d = c in
-    sym (head_line_greater d.args.sheet.now d.args.at d.requires d.args.letter d.args.head.now c.if-letter-own.true)
+    sym (head_line_greater c.args.sheet.now c.args.at c.requires c.args.letter c.args.head.now c.if-letter-own.true)
 
 pub overflow_add-start : goal.overflow_add-start
 overflow_add-start c =
-    let d = c in
-    omega (arith, line-fits d.args.sheet.now d.args.at d.requires)
+    omega (arith, line-fits c.args.sheet.now c.args.at c.requires)
 
 pub slice_bounds-along-count : goal.slice_bounds-along-count
 slice_bounds-along-count c =
-    let d = c in
-    omega (arith, line-fits d.args.sheet.now d.args.at d.requires)
+    omega (arith, line-fits c.args.sheet.now c.args.at c.requires)
 
 pub slice_bounds-along-start : goal.slice_bounds-along-start
 slice_bounds-along-start c =
-    let d = c in
-    omega (arith, line-fits d.args.sheet.now d.args.at d.requires)
+    omega (arith, line-fits c.args.sheet.now c.args.at c.requires)
 
 pub returns : goal.returns
 returns c =
-    let e = c in
-    let d = e in
-    let s = d.args.sheet.now in
-    let n = d.args.at + 3 in
+    let s = c.args.sheet.now in
+    let n = c.args.at + 3 in
     let h : length (drop n s) ≤ length s - n = simp length-drop (omega arith) in
-    c.along.ensures ∙ ap (λ (l : List ℕ). headed (spaced l) d.args.head.now) (take_all _ _ h)
-    ∙ sym (head_line_same s d.args.at d.requires d.args.letter d.args.head.now (line-letter s d.args.at d.requires ∙ le_antisymm e.if-letter-own.false e.if-own-letter.false))
+    c.along.ensures ∙ ap (λ (l : List ℕ). headed (spaced l) c.args.head.now) (take_all _ _ h)
+    ∙ sym (head_line_same s c.args.at c.requires c.args.letter c.args.head.now (line-letter s c.args.at c.requires ∙ le_antisymm c.if-letter-own.false c.if-own-letter.false))

@@ -15,45 +15,36 @@ use Rattle.sheet.proofs.keys.line_order.Goals as goal
 
 pub overflow_add-first : goal.overflow_add-first
 overflow_add-first c =
-    let d = c in
-    omega (arith, line-fits d.args.sheet.now d.args.at d.requires)
+    omega (arith, line-fits c.args.sheet.now c.args.at c.requires)
 
 pub bounds-sheet-at : goal.bounds-sheet-at
 bounds-sheet-at c =
-    let d = c in
-    omega (arith, line-fits d.args.sheet.now d.args.at d.requires)
+    omega (arith, line-fits c.args.sheet.now c.args.at c.requires)
 
 pub returns-then-first-letter : goal.returns-then-first-letter
 returns-then-first-letter c =
-    let d = c in
-    sym (line_less d.args.sheet.now d.args.at d.requires d.args.letter (d.args.p.now ++ d.args.q.now) c.if-first-letter.true)
+    sym (line_less c.args.sheet.now c.args.at c.requires c.args.letter (c.args.p.now ++ c.args.q.now) c.if-first-letter.true)
 
 pub returns-then-letter-first : goal.returns-then-letter-first
 returns-then-letter-first c =
-    let d = c in
-    sym (line_greater d.args.sheet.now d.args.at d.requires d.args.letter (d.args.p.now ++ d.args.q.now) c.if-letter-first.true)
+    sym (line_greater c.args.sheet.now c.args.at c.requires c.args.letter (c.args.p.now ++ c.args.q.now) c.if-letter-first.true)
 
 pub overflow_add-from : goal.overflow_add-from
 overflow_add-from c =
-    let d = c in
-    omega (arith, line-fits d.args.sheet.now d.args.at d.requires)
+    omega (arith, line-fits c.args.sheet.now c.args.at c.requires)
 
 pub slice_bounds-parts_order-count : goal.slice_bounds-parts_order-count
 slice_bounds-parts_order-count c =
-    let d = c in
-    omega (arith, line-fits d.args.sheet.now d.args.at d.requires)
+    omega (arith, line-fits c.args.sheet.now c.args.at c.requires)
 
 pub slice_bounds-parts_order-start : goal.slice_bounds-parts_order-start
 slice_bounds-parts_order-start c =
-    let d = c in
-    omega (arith, line-fits d.args.sheet.now d.args.at d.requires)
+    omega (arith, line-fits c.args.sheet.now c.args.at c.requires)
 
 pub returns : goal.returns
 returns c =
-    let e = c in
-    let d = e in
-    let s = d.args.sheet.now in
-    let n = d.args.at + 3 in
+    let s = c.args.sheet.now in
+    let n = c.args.at + 3 in
     let h : length (drop n s) ≤ length s - n = simp length-drop (omega arith) in
-    c.parts_order.ensures ∙ ap (λ (l : List ℕ). cmp (spaced l) (d.args.p.now ++ d.args.q.now)) (take_all _ _ h)
-    ∙ sym (line_same s d.args.at d.requires d.args.letter (d.args.p.now ++ d.args.q.now) (line-letter s d.args.at d.requires ∙ le_antisymm e.if-letter-first.false e.if-first-letter.false))
+    c.parts_order.ensures ∙ ap (λ (l : List ℕ). cmp (spaced l) (c.args.p.now ++ c.args.q.now)) (take_all _ _ h)
+    ∙ sym (line_same s c.args.at c.requires c.args.letter (c.args.p.now ++ c.args.q.now) (line-letter s c.args.at c.requires ∙ le_antisymm c.if-letter-first.false c.if-first-letter.false))

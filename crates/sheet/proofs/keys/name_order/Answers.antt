@@ -7,34 +7,26 @@ use Rattle.sheet.proofs.keys.name_order.Goals as goal
 
 pub returns-then-t-n : goal.returns-then-t-n
 returns-then-t-n c =
-    let e = c in
-    let d = e in
-    let a = d.args in
-    name-leaves a.t.now a.q.now _ _ d.along-o.ensures e.in-Equal.is (spaced-past a.t.now _ c.if-t-n.true)
+    let a = c.args in
+    name-leaves a.t.now a.q.now _ _ c.along-o.ensures c.in-Equal.is (spaced-past a.t.now _ c.if-t-n.true)
 
 pub returns-then-t-n-eq32 : goal.returns-then-t-n-eq32
 returns-then-t-n-eq32 c =
-    let e = c in
-    let d = e in
-    let a = d.args in
-    name-leaves a.t.now a.q.now _ _ d.along-o.ensures e.in-Equal.is (spaced-none a.t.now _ (omega arith) c.if-t-n-eq32.true)
+    let a = c.args in
+    name-leaves a.t.now a.q.now _ _ c.along-o.ensures c.in-Equal.is (spaced-none a.t.now _ (omega arith) c.if-t-n-eq32.true)
 
 pub returns-in-Less : goal.returns-in-Less
 returns-in-Less c =
-    let d = c in
-    let a = d.args in
-    name_decides a.t.now a.q.now _ _ d.along-o.ensures c.in-Less.is
+    let a = c.args in
+    name_decides a.t.now a.q.now _ _ c.along-o.ensures c.in-Less.is
 
 pub returns-in-Greater : goal.returns-in-Greater
 returns-in-Greater c =
-    let d = c in
-    let a = d.args in
-    name_decides a.t.now a.q.now _ _ d.along-o.ensures c.in-Greater.is
+    let a = c.args in
+    name_decides a.t.now a.q.now _ _ c.along-o.ensures c.in-Greater.is
 
 pub returns-else-t-n-eq32 : goal.returns-else-t-n-eq32
 returns-else-t-n-eq32 c =
-    let e = c in
-    let d = e in
-    let a = d.args in
-    name-leaves a.t.now a.q.now _ _ d.along-o.ensures e.in-Equal.is
+    let a = c.args in
+    name-leaves a.t.now a.q.now _ _ c.along-o.ensures c.in-Equal.is
     (spaced-cons a.t.now (length a.q.now) (omega arith) c.if-t-n-eq32.false)

@@ -17,7 +17,7 @@ room : (b : Start) → b.args.at + 3 ≤ length b.args.sheet.now
 room b = omega (arith, line-fits b.args.sheet.now b.args.at b.requires.0)
 
 pub overflow_add-name : goal.overflow_add-name
-overflow_add-name c = let b = c in omega (arith, line-fits b.args.sheet.now b.args.at b.requires.0)
+overflow_add-name c = omega (arith, line-fits c.args.sheet.now c.args.at c.requires.0)
 
 pub slice_bounds-rest_order-count : goal.slice_bounds-rest_order-count
 slice_bounds-rest_order-count c = room (goal.at.slice_bounds-rest_order-count c).Start
@@ -35,15 +35,13 @@ rest b =
 
 pub rest_order-requires : goal.rest_order-requires
 rest_order-requires c =
-    let b = c in
-    let a = b.args in
+    let a = c.args in
     subst (λ (l : List ℕ). headed (spaced l) a.p.now ≡ Equal) (sym (rest (goal.at.rest_order-requires c).Start))
-    (head_line_equal a.sheet.now a.at b.requires.0 a.letter a.p.now b.requires.1).1
+    (head_line_equal a.sheet.now a.at c.requires.0 a.letter a.p.now c.requires.1).1
 
 pub returns : goal.returns
 returns c =
-    let b = c in
-    let a = b.args in
+    let a = c.args in
     let q = a.p.now ++ a.q.now in
     c.rest_order.ensures ∙ ap (λ (l : List ℕ). cmp (spaced l) q) (rest (goal.at.returns c).Start)
-    ∙ sym (line_same a.sheet.now a.at b.requires.0 a.letter q (head_line_equal a.sheet.now a.at b.requires.0 a.letter a.p.now b.requires.1).0)
+    ∙ sym (line_same a.sheet.now a.at c.requires.0 a.letter q (head_line_equal a.sheet.now a.at c.requires.0 a.letter a.p.now c.requires.1).0)

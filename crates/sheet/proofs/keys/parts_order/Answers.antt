@@ -9,15 +9,13 @@ rest_order-requires c = sym c.along-o.ensures ∙ c.in-Equal.is
 
 pub returns-in-Less : goal.returns-in-Less
 returns-in-Less c =
-    let d = c in
-    let a = d.args in
-    first_decides a.t.now a.p.now a.q.now _ _ d.along-o.ensures c.in-Less.is
+    let a = c.args in
+    first_decides a.t.now a.p.now a.q.now _ _ c.along-o.ensures c.in-Less.is
 
 pub returns-in-Greater : goal.returns-in-Greater
 returns-in-Greater c =
-    let d = c in
-    let a = d.args in
-    first_decides a.t.now a.p.now a.q.now _ _ d.along-o.ensures c.in-Greater.is
+    let a = c.args in
+    first_decides a.t.now a.p.now a.q.now _ _ c.along-o.ensures c.in-Greater.is
 
 pub returns-in-Equal : goal.returns-in-Equal
 returns-in-Equal c = c.rest_order.ensures

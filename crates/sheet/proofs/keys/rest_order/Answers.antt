@@ -14,8 +14,7 @@ use Rattle.sheet.proofs.keys.rest_order.Goals.{After-shared_slice_known-3-1}
 -- a name that begins with p stands in t
 fits : (c : After-shared_slice_known-3-1) → let a = c.args in length a.p.now ≤ length a.t.now
 fits c =
-    let b = c in
-    omega (arith, head-fits (spaced b.args.t.now) b.args.p.now b.requires, spaced-le b.args.t.now)
+    omega (arith, head-fits (spaced c.args.t.now) c.args.p.now c.requires, spaced-le c.args.t.now)
 
 pub slice_bounds-name_order-count : goal.slice_bounds-name_order-count
 slice_bounds-name_order-count c = fits (goal.at.slice_bounds-name_order-count c).After-shared_slice_known-3-1
@@ -25,8 +24,7 @@ slice_bounds-name_order-start c = fits (goal.at.slice_bounds-name_order-start c)
 
 pub returns : goal.returns
 returns c =
-    let b = c in
-    let a = b.args in
+    let a = c.args in
     let n = length a.p.now in
     let h : length (drop n a.t.now) ≤ length a.t.now - n = simp length-drop (omega arith) in
-    c.name_order.ensures ∙ ap (λ (l : List ℕ). cmp (spaced l) a.q.now) (take_all _ _ h) ∙ first-leaves a.t.now a.p.now a.q.now b.requires
+    c.name_order.ensures ∙ ap (λ (l : List ℕ). cmp (spaced l) a.q.now) (take_all _ _ h) ∙ first-leaves a.t.now a.p.now a.q.now c.requires

@@ -12,8 +12,6 @@ use Rattle.sheet.specs.Letters.{has, past, after_flags, closes}
 use Rattle.sheet.proofs.Places.{to_r, to_p, to_e}
 use Rattle.sheet.proofs.Kept.{neither, alone, with_pronoun, spelled-alone, without-both}
 use Rattle.sheet.proofs.letters.are_letters.Goals as goal
-use Rattle.sheet.proofs.letters.are_letters.Tie
-use Rattle.sheet.proofs.letters.are_letters.Reads
 use Rattle.sheet.proofs.letters.are_letters.Lts.View.{up-After-skip-h}
 use Rattle.sheet.proofs.letters.are_letters.Goals.{After-skip-h, After-skip-past_e}
 
@@ -34,7 +32,7 @@ module _ (c : After-skip-past_e) where
   x = past 0x68 (past 0x77 v)
 
   head_stands : has 0x68 (past 0x77 v) ≡ true
-  head_stands = has_h (up-After-skip-h Tie.the-claims Reads.Pre Reads.Post c.before.before.before.before.before) ∙ lt-ltb _ _ c.if-h-w.false
+  head_stands = has_h (up-After-skip-h _ _ _ c.before.before.before.before.before) ∙ lt-ltb _ _ c.if-h-w.false
 
   has_p : has 0x70 (past 0x76 x) ≡ ltb c.skip-past_v.result c.skip-past_p.result
   has_p =
@@ -55,28 +53,23 @@ module _ (c : After-skip-past_e) where
 
 pub returns-then-w-eq0 : goal.returns-then-w-eq0
 returns-then-w-eq0 c =
-    let s = c in
-    neither s.args.v.now (has_h (goal.at.returns-then-w-eq0 c).After-skip-h ∙ le-ltb _ _ c.if-h-w.true) (has_w (goal.at.returns-then-w-eq0 c).After-skip-h ∙ le-ltb 0 s.skip-w.result (omega arith))
+    neither c.args.v.now (has_h (goal.at.returns-then-w-eq0 c).After-skip-h ∙ le-ltb _ _ c.if-h-w.true) (has_w (goal.at.returns-then-w-eq0 c).After-skip-h ∙ le-ltb 0 c.skip-w.result (omega arith))
 
 pub returns-then-h-w : goal.returns-then-h-w
 returns-then-h-w c =
-    let s = c in
-    let w = s.skip-w.result in
-    let n : length s.args.v.now - w ≡ length (past 0x77 s.args.v.now) = sym (length-drop w s.args.v.now) ∙ ap length s.skip-w.ensures.0 in
-    ap (λ (k : ℕ). eqb k 0) n ∙ alone s.args.v.now (has_h (goal.at.returns-then-h-w c).After-skip-h ∙ le-ltb _ _ c.if-h-w.true) (has_w (goal.at.returns-then-h-w c).After-skip-h ∙ lt-ltb 0 w (omega arith))
+    let w = c.skip-w.result in
+    let n : length c.args.v.now - w ≡ length (past 0x77 c.args.v.now) = sym (length-drop w c.args.v.now) ∙ ap length c.skip-w.ensures.0 in
+    ap (λ (k : ℕ). eqb k 0) n ∙ alone c.args.v.now (has_h (goal.at.returns-then-h-w c).After-skip-h ∙ le-ltb _ _ c.if-h-w.true) (has_w (goal.at.returns-then-h-w c).After-skip-h ∙ lt-ltb 0 w (omega arith))
 
 pub returns-then-past_v-past_p : goal.returns-then-past_v-past_p
 returns-then-past_v-past_p c =
-    let s = c in
     c.closes_at.ensures ∙ ap closes (left_over (goal.at.returns-then-past_v-past_p c).After-skip-past_e) ∙ with_pronoun (v (goal.at.returns-then-past_v-past_p c).After-skip-past_e) (head_stands (goal.at.returns-then-past_v-past_p c).After-skip-past_e) (has_p (goal.at.returns-then-past_v-past_p c).After-skip-past_e ∙ lt-ltb _ _ c.if-past_v-past_p.true)
 
 pub returns-then-past_p-past_e : goal.returns-then-past_p-past_e
 returns-then-past_p-past_e c =
-    let s = c in
     spelled-alone (v (goal.at.returns-then-past_p-past_e c).After-skip-past_e) (head_stands (goal.at.returns-then-past_p-past_e c).After-skip-past_e) (has_p (goal.at.returns-then-past_p-past_e c).After-skip-past_e ∙ le-ltb _ _ c.if-past_v-past_p.false) (has_e (goal.at.returns-then-past_p-past_e c).After-skip-past_e ∙ lt-ltb _ _ c.if-past_p-past_e.true)
 
 pub returns : goal.returns
 returns c =
-    let s = c in
     c.closes_at-2.ensures ∙ ap closes (left_over (goal.at.returns c).After-skip-past_e)
     ∙ without-both (v (goal.at.returns c).After-skip-past_e) (head_stands (goal.at.returns c).After-skip-past_e) (has_p (goal.at.returns c).After-skip-past_e ∙ le-ltb _ _ c.if-past_v-past_p.false) (has_e (goal.at.returns c).After-skip-past_e ∙ le-ltb _ _ c.if-past_p-past_e.false)

@@ -20,12 +20,7 @@ skip-e-requires c = omega arith
 
 pub returns : goal.returns
 returns c =
-    let e = c in
-    let p = e in
-    let r = p in
-    let h = r in
-    let w = h in
-    let v = w.args.v.now in
-    spelt v w.skip-w.result h.skip-h.result r.skip-r.result p.skip-p.result e.skip-e.result
-    w.skip-w.ensures.0 h.skip-h.ensures.0 r.skip-r.ensures.0 p.skip-p.ensures.0 e.skip-e.ensures.0 c.tag_at-tag.result
-    w.skip-w.ensures.1 h.skip-h.ensures.1 r.skip-r.ensures.1 p.skip-p.ensures.1 e.skip-e.ensures.1 c.tag_at-tag.ensures
+    let v = c.args.v.now in
+    spelt v c.skip-w.result c.skip-h.result c.skip-r.result c.skip-p.result c.skip-e.result
+    c.skip-w.ensures.0 c.skip-h.ensures.0 c.skip-r.ensures.0 c.skip-p.ensures.0 c.skip-e.ensures.0 c.tag_at-tag.result
+    c.skip-w.ensures.1 c.skip-h.ensures.1 c.skip-r.ensures.1 c.skip-p.ensures.1 c.skip-e.ensures.1 c.tag_at-tag.ensures

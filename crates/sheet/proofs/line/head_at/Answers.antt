@@ -10,19 +10,14 @@ returns-then-begins_with c = simp (sym c.begins_with.ensures ∙ c.if-begins_wit
 pub returns-then-begins_with-2 : goal.returns-then-begins_with-2
 unfolding head_of
 returns-then-begins_with-2 c =
-    let d = c in
-    simp (sym d.begins_with.ensures ∙ d.if-begins_with.false, sym c.begins_with-2.ensures ∙ c.if-begins_with-2.true)
+    simp (sym c.begins_with.ensures ∙ c.if-begins_with.false, sym c.begins_with-2.ensures ∙ c.if-begins_with-2.true)
 
 pub returns-then-begins_with-3 : goal.returns-then-begins_with-3
 unfolding head_of
 returns-then-begins_with-3 c =
-    let e = c in
-    let d = e in
-    simp (sym d.begins_with.ensures ∙ d.if-begins_with.false, sym e.begins_with-2.ensures ∙ e.if-begins_with-2.false, sym c.begins_with-3.ensures ∙ c.if-begins_with-3.true)
+    simp (sym c.begins_with.ensures ∙ c.if-begins_with.false, sym c.begins_with-2.ensures ∙ c.if-begins_with-2.false, sym c.begins_with-3.ensures ∙ c.if-begins_with-3.true)
 
 pub returns : goal.returns
 unfolding head_of
 returns c =
-    let e = c in
-    let d = e in
-    simp (sym d.begins_with.ensures ∙ d.if-begins_with.false, sym e.begins_with-2.ensures ∙ e.if-begins_with-2.false, sym c.begins_with-3.ensures ∙ c.if-begins_with-3.false)
+    simp (sym c.begins_with.ensures ∙ c.if-begins_with.false, sym c.begins_with-2.ensures ∙ c.if-begins_with-2.false, sym c.begins_with-3.ensures ∙ c.if-begins_with-3.false)

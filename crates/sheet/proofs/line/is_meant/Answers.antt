@@ -12,32 +12,25 @@ returns-then-letter-eq107 c = simp (eq-eqb _ _ c.if-letter-eq107.true) c.is_kind
 pub returns-then-not-is_link : goal.returns-then-not-is_link
 unfolding is_meant
 returns-then-not-is_link c =
-    let d = c in
-    simp (ne_eqb _ _ d.if-letter-eq107.false, eq-eqb _ _ d.if-letter-eq108.true, sym c.is_link.ensures ∙ c.if-not-is_link.true)
+    simp (ne_eqb _ _ c.if-letter-eq107.false, eq-eqb _ _ c.if-letter-eq108.true, sym c.is_link.ensures ∙ c.if-not-is_link.true)
 
 pub returns-then-not-is_name : goal.returns-then-not-is_name
 unfolding is_meant
 returns-then-not-is_name c =
-    let d = c in
-    simp (ne_eqb _ _ d.if-letter-eq107.false, eq-eqb _ _ d.if-letter-eq108.true, sym c.is_name.ensures ∙ c.if-not-is_name.true, and-false)
+    simp (ne_eqb _ _ c.if-letter-eq107.false, eq-eqb _ _ c.if-letter-eq108.true, sym c.is_name.ensures ∙ c.if-not-is_name.true, and-false)
 
 pub returns-then-letter-eq108 : goal.returns-then-letter-eq108
 unfolding is_meant
 returns-then-letter-eq108 c =
-    let n = c in
-    let l = n in
-    let d = l in
-    simp (ne_eqb _ _ d.if-letter-eq107.false, eq-eqb _ _ d.if-letter-eq108.true, sym l.is_link.ensures ∙ l.if-not-is_link.false, sym n.is_name.ensures ∙ n.if-not-is_name.false)
+    simp (ne_eqb _ _ c.if-letter-eq107.false, eq-eqb _ _ c.if-letter-eq108.true, sym c.is_link.ensures ∙ c.if-not-is_link.false, sym c.is_name.ensures ∙ c.if-not-is_name.false)
     c.ends_with.ensures
 
 pub returns-then-letter-eq119 : goal.returns-then-letter-eq119
 unfolding is_meant
 returns-then-letter-eq119 c =
-    let d = c in
-    simp (ne_eqb _ _ d.if-letter-eq107.false, ne_eqb _ _ d.if-letter-eq108.false, eq-eqb _ _ c.if-letter-eq119.true) c.are_letters.ensures
+    simp (ne_eqb _ _ c.if-letter-eq107.false, ne_eqb _ _ c.if-letter-eq108.false, eq-eqb _ _ c.if-letter-eq119.true) c.are_letters.ensures
 
 pub returns : goal.returns
 unfolding is_meant
 returns c =
-    let d = c in
-    simp (ne_eqb _ _ d.if-letter-eq107.false, ne_eqb _ _ d.if-letter-eq108.false, ne_eqb _ _ c.if-letter-eq119.false)
+    simp (ne_eqb _ _ c.if-letter-eq107.false, ne_eqb _ _ c.if-letter-eq108.false, ne_eqb _ _ c.if-letter-eq119.false)

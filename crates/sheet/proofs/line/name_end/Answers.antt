@@ -10,15 +10,14 @@ use Rattle.sheet.proofs.Forms.{line-fits, name-ends}
 use Rattle.sheet.proofs.line.name_end.Goals as goal
 
 pub overflow_add-name : goal.overflow_add-name
-overflow_add-name c = let b = c in omega (arith, line-fits b.args.s.now b.args.at b.requires)
+overflow_add-name c = omega (arith, line-fits c.args.s.now c.args.at c.requires)
 
 pub find-requires : goal.find-requires
-find-requires c = let b = c in (omega (arith, line-fits b.args.s.now b.args.at b.requires), omega arith)
+find-requires c = (omega (arith, line-fits c.args.s.now c.args.at c.requires), omega arith)
 
 pub returns : goal.returns
 unfolding slice
 returns c =
-    let b = c in
-    let s = b.args.s.now in
-    let n = b.args.at + 3 in
-    c.find.ensures.0 ∙ ap (λ (l : List ℕ). n + index_of 0x20 (drop n l)) (take-length s) ∙ name-ends s b.args.at b.requires
+    let s = c.args.s.now in
+    let n = c.args.at + 3 in
+    c.find.ensures.0 ∙ ap (λ (l : List ℕ). n + index_of 0x20 (drop n l)) (take-length s) ∙ name-ends s c.args.at c.requires

@@ -10,16 +10,15 @@ use Rattle.sheet.proofs.Forms.{line-fits, value-ends}
 use Rattle.sheet.proofs.line.value_end.Goals as goal
 
 pub overflow_add-value : goal.overflow_add-value
-overflow_add-value c = let b = c in omega (arith, line-fits b.args.s.now b.args.at b.requires.0, b.requires.1)
+overflow_add-value c = omega (arith, line-fits c.args.s.now c.args.at c.requires.0, c.requires.1)
 
 pub find-requires : goal.find-requires
-find-requires c = let b = c in (omega (arith, line-fits b.args.s.now b.args.at b.requires.0, b.requires.1), omega arith)
+find-requires c = (omega (arith, line-fits c.args.s.now c.args.at c.requires.0, c.requires.1), omega arith)
 
 pub returns : goal.returns
 unfolding slice
 returns c =
-    let b = c in
-    let s = b.args.s.now in
-    let n = b.args.end + 2 in
+    let s = c.args.s.now in
+    let n = c.args.end + 2 in
     c.find.ensures.0 ∙ ap (λ (l : List ℕ). n + index_of 0x29 (drop n l)) (take-length s)
-    ∙ ap (λ (e : ℕ). e + 2 + index_of 0x29 (drop (e + 2) s)) b.requires.1 ∙ value-ends s b.args.at b.requires.0
+    ∙ ap (λ (e : ℕ). e + 2 + index_of 0x29 (drop (e + 2) s)) c.requires.1 ∙ value-ends s c.args.at c.requires.0

@@ -18,6 +18,5 @@ returns-then-run-gt-NAME_BYTES c = let n = length c.args.run.now in simp (lt-ltb
 pub returns : goal.returns
 unfolding is_name
 returns c =
-    let b = c in
-    let n = length b.args.run.now in
-    simp (lt-ltb 0 n (omega arith), le-leb n name_limit c.if-run-gt-NAME_BYTES.false, b.requires, and-true) c.is_utf8.ensures
+    let n = length c.args.run.now in
+    simp (lt-ltb 0 n (omega arith), le-leb n name_limit c.if-run-gt-NAME_BYTES.false, c.requires, and-true) c.is_utf8.ensures

@@ -19,11 +19,9 @@ overflow_sub-i c = omega arith
 
 pub returns-then-is_forbidden : goal.returns-then-is_forbidden
 returns-then-is_forbidden c =
-    let f = c in
-    let k = f in
-    let a = k.args in
-    let z = stops_here a.s.now k.loop-i.i f.loop-i-test.true (sym f.is_forbidden.ensures ∙ c.if-is_forbidden.true) in
-    (omega arith, omega arith, c.named.ensures ∙ read_done a.s.now k.loop-i.i a.«from» (owed_of k.loop-i.state) k.loop-i.invariant.0 z k.loop-i.invariant.2 k.loop-i.invariant.3)
+    let a = c.args in
+    let z = stops_here a.s.now c.loop-i.i c.loop-i-test.true (sym c.is_forbidden.ensures ∙ c.if-is_forbidden.true) in
+    (omega arith, omega arith, c.named.ensures ∙ read_done a.s.now c.loop-i.i a.«from» (owed_of c.loop-i.state) c.loop-i.invariant.0 z c.loop-i.invariant.2 c.loop-i.invariant.3)
 
 pub overflow_add-i : goal.overflow_add-i
 overflow_add-i c = omega arith
@@ -33,20 +31,17 @@ loop-i-smaller c = omega arith
 
 pub loop-i-preserved : goal.loop-i-preserved
 loop-i-preserved c =
-    let f = c in
-    let k = f in
-    let a = k.args in
-    let h = f.loop-i-test.true in
-    let e = sym f.is_forbidden.ensures ∙ c.if-is_forbidden.false in
-    let g = goes_on_lem a.s.now k.loop-i.i h e in
-    (omega arith, omega arith, omega arith, k.loop-i.invariant.3 ∙ owed_on a.s.now k.loop-i.i _ _ h e c.next-state.ensures)
+    let a = c.args in
+    let h = c.loop-i-test.true in
+    let e = sym c.is_forbidden.ensures ∙ c.if-is_forbidden.false in
+    let g = goes_on_lem a.s.now c.loop-i.i h e in
+    (omega arith, omega arith, omega arith, c.loop-i.invariant.3 ∙ owed_on a.s.now c.loop-i.i _ _ h e c.next-state.ensures)
 
 pub overflow_sub-i-2 : goal.overflow_sub-i-2
 overflow_sub-i-2 c = omega arith
 
 pub returns : goal.returns
 returns c =
-    let k = c in
-    let a = k.args in
-    let z = stops_end a.s.now k.loop-i.i c.loop-i-test.false in
-    (omega arith, omega arith, c.named-2.ensures ∙ read_done a.s.now k.loop-i.i a.«from» (owed_of k.loop-i.state) k.loop-i.invariant.0 z k.loop-i.invariant.2 k.loop-i.invariant.3)
+    let a = c.args in
+    let z = stops_end a.s.now c.loop-i.i c.loop-i-test.false in
+    (omega arith, omega arith, c.named-2.ensures ∙ read_done a.s.now c.loop-i.i a.«from» (owed_of c.loop-i.state) c.loop-i.invariant.0 z c.loop-i.invariant.2 c.loop-i.invariant.3)

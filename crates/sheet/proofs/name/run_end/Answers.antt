@@ -12,10 +12,8 @@ bounds-s-i c = omega arith
 
 pub returns-then-is_forbidden : goal.returns-then-is_forbidden
 returns-then-is_forbidden c =
-    let f = c in
-    let k = f in
-    let a = k.args in
-    let z = stops_here a.s.now k.loop-i.i f.loop-i-test.true (sym f.is_forbidden.ensures ∙ c.if-is_forbidden.true) in
+    let a = c.args in
+    let z = stops_here a.s.now c.loop-i.i c.loop-i-test.true (sym c.is_forbidden.ensures ∙ c.if-is_forbidden.true) in
     (omega arith, omega arith)
 
 pub overflow_add-i : goal.overflow_add-i
@@ -26,15 +24,12 @@ loop-i-smaller c = omega arith
 
 pub loop-i-preserved : goal.loop-i-preserved
 loop-i-preserved c =
-    let f = c in
-    let k = f in
-    let a = k.args in
-    let g = goes_on_lem a.s.now k.loop-i.i f.loop-i-test.true (sym f.is_forbidden.ensures ∙ c.if-is_forbidden.false) in
+    let a = c.args in
+    let g = goes_on_lem a.s.now c.loop-i.i c.loop-i-test.true (sym c.is_forbidden.ensures ∙ c.if-is_forbidden.false) in
     (omega arith, omega arith)
 
 pub returns : goal.returns
 returns c =
-    let k = c in
-    let a = k.args in
-    let z = stops_end a.s.now k.loop-i.i c.loop-i-test.false in
+    let a = c.args in
+    let z = stops_end a.s.now c.loop-i.i c.loop-i-test.false in
     (omega arith, omega arith)

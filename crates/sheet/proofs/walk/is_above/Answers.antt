@@ -16,19 +16,16 @@ returns-in_default c =
 
 pub line_order-order-requires : goal.line_order-order-requires
 line_order-order-requires c =
-    let l = c in
-    let b = l in
-    subst (Standing b.args.s.now) l.in-At.is b.requires
+    subst (Standing c.args.s.now) c.in-At.is c.requires
 
 -- the order found, of the last line and this key
 order : (c : After-line_order-order) → let a = c.args in
     c.line_order-order.result ≡ cmp (key_before a.s.now a.last) (key_of a.letter a.name.now)
 order c =
-    let l = c in
-    let a = l.args in
+    let a = c.args in
     c.line_order-order.ensures
-    ∙ ap (λ (n : List ℕ). cmp (key_before a.s.now (Before.At l.in-At.at)) (key_of a.letter n)) (append-nil a.name.now)
-    ∙ ap (λ (x : Before). cmp (key_before a.s.now x) (key_of a.letter a.name.now)) (sym l.in-At.is)
+    ∙ ap (λ (n : List ℕ). cmp (key_before a.s.now (Before.At c.in-At.at)) (key_of a.letter n)) (append-nil a.name.now)
+    ∙ ap (λ (x : Before). cmp (key_before a.s.now x) (key_of a.letter a.name.now)) (sym c.in-At.is)
 
 pub returns-in-Less : goal.returns-in-Less
 returns-in-Less c = ap is_less (sym c.in-Less.is ∙ order (goal.at.returns-in-Less c).After-line_order-order)

@@ -39,6 +39,5 @@ returns c =
     let a = c.args in
     let n = counted (goal.at.returns c).After-least_after-least in
     let m = c.least_after-least.ensures in
-    let d = c in
-    let b = sym d.begins_with.ensures ∙ d.if-not-begins_with.false in
+    let b = sym c.begins_with.ensures ∙ c.if-not-begins_with.false in
     rw (leaves_true a.piece.now a.form.now b (rw (← n, ← m) c.if-left-least.false))

@@ -15,16 +15,13 @@ returns-then-spelled c =
 
 pub returns-then-same : goal.returns-then-same
 returns-then-same c =
-    let d = c in
-    let a = d.args in
-    keeps_first a.pronoun a.spelled a.suffix.now (d.if-not-pronoun.false) d.if-spelled.false
+    let a = c.args in
+    keeps_first a.pronoun a.spelled a.suffix.now (c.if-not-pronoun.false) c.if-spelled.false
     (sym c.same.ensures ∙ c.if-same.true)
 
 pub returns : goal.returns
 returns c =
-    let e = c in
-    let d = e in
-    let a = d.args in
+    let a = c.args in
     c.same-2.ensures
-    ∙ keeps_second a.pronoun a.spelled a.suffix.now (d.if-not-pronoun.false) d.if-spelled.false
-    (sym e.same.ensures ∙ e.if-same.false)
+    ∙ keeps_second a.pronoun a.spelled a.suffix.now (c.if-not-pronoun.false) c.if-spelled.false
+    (sym c.same.ensures ∙ c.if-same.false)

@@ -16,10 +16,9 @@ bounds-t-i c = omega arith
 
 pub returns-then-opens_one-eq1 : goal.returns-then-opens_one-eq1
 returns-then-opens_one-eq1 c =
-    let d = c in
-    let t = d.args.t.now in
-    let g = goes_stop t d.loop-i.i (omega arith) (sym c.opens_one.ensures.0 ∙ c.if-opens_one-eq1.true) in
-    (omega (arith, d.loop-i.invariant.2, g), omega arith)
+    let t = c.args.t.now in
+    let g = goes_stop t c.loop-i.i (omega arith) (sym c.opens_one.ensures.0 ∙ c.if-opens_one-eq1.true) in
+    (omega (arith, c.loop-i.invariant.2, g), omega arith)
 
 pub overflow_add-i : goal.overflow_add-i
 overflow_add-i c = omega arith
@@ -29,14 +28,12 @@ loop-i-smaller c = omega arith
 
 pub loop-i-preserved : goal.loop-i-preserved
 loop-i-preserved c =
-    let d = c in
-    let t = d.args.t.now in
-    let g = goes_next t d.loop-i.i (omega arith) (λ e. c.if-opens_one-eq1.false (c.opens_one.ensures.0 ∙ e)) in
-    (omega arith, omega arith, omega (arith, d.loop-i.invariant.2, g))
+    let t = c.args.t.now in
+    let g = goes_next t c.loop-i.i (omega arith) (λ e. c.if-opens_one-eq1.false (c.opens_one.ensures.0 ∙ e)) in
+    (omega arith, omega arith, omega (arith, c.loop-i.invariant.2, g))
 
 pub returns : goal.returns
 returns c =
-    let d = c in
-    let t = d.args.t.now in
-    let g = goes_end t d.loop-i.i (omega arith) in
-    (omega (arith, d.loop-i.invariant.2, g), omega arith)
+    let t = c.args.t.now in
+    let g = goes_end t c.loop-i.i (omega arith) in
+    (omega (arith, c.loop-i.invariant.2, g), omega arith)

@@ -20,18 +20,16 @@ returns-then-not-ends_with c =
 pub returns-then-count-le1 : goal.returns-then-count-le1
 unfolding rests_of
 returns-then-count-le1 c =
-    let d = c in
-    let a = d.args in
-    let e = sym d.ends_with.ensures ∙ d.if-not-ends_with.false in
+    let a = c.args in
+    let e = sym c.ends_with.ensures ∙ c.if-not-ends_with.false in
     let n = c.count.ensures in
-    rw (sheds_true a.piece.now a.suffix.now d.if-n-m.false e, long_false a.suffix.now (omega arith))
+    rw (sheds_true a.piece.now a.suffix.now c.if-n-m.false e, long_false a.suffix.now (omega arith))
 
 pub returns : goal.returns
 unfolding rests_of
 returns c =
-    let d = c in
-    let a = d.args in
-    let e = sym d.ends_with.ensures ∙ d.if-not-ends_with.false in
+    let a = c.args in
+    let e = sym c.ends_with.ensures ∙ c.if-not-ends_with.false in
     let n = c.count.ensures in
     rw
-    (sheds_true a.piece.now a.suffix.now d.if-n-m.false e, long_true a.suffix.now (omega arith), c.first_char_len.ensures.0)
+    (sheds_true a.piece.now a.suffix.now c.if-n-m.false e, long_true a.suffix.now (omega arith), c.first_char_len.ensures.0)

@@ -28,9 +28,8 @@ inside c = rw origin_word_count (omega arith)
 -- what the comparison says of it
 compared : (c : After-compare-order) → c.compare-order.result ≡ cmp (get_or origin_words (middle (up-In-loop-low _ _ _ _ _ c.before.before.before)) []) c.args.word.now
 compared c =
-    let d = c in
-    let laid = d.requires.0 in
-    c.compare-order.ensures ∙ ap (λ (r : List ℕ). cmp r d.args.word.now) (c.row-listed.ensures ∙ laid-row laid (middle (up-In-loop-low _ _ _ _ _ c.before.before.before)) (inside (up-In-loop-low _ _ _ _ _ c.before.before.before)))
+    let laid = c.requires.0 in
+    c.compare-order.ensures ∙ ap (λ (r : List ℕ). cmp r c.args.word.now) (c.row-listed.ensures ∙ laid-row laid (middle (up-In-loop-low _ _ _ _ _ c.before.before.before)) (inside (up-In-loop-low _ _ _ _ _ c.before.before.before)))
 
 pub loop-low-init : goal.loop-low-init
 loop-low-init c = (omega arith, omega arith, (λ k l. absurd (not-suc-le-zero l)), (λ k l h. absurd (omega arith)))
@@ -52,9 +51,8 @@ loop-low-smaller-in-Less c = omega arith
 
 pub loop-low-preserved-in-Less : goal.loop-low-preserved-in-Less
 loop-low-preserved-in-Less c =
-    let d = c in
     let e = sym (compared (goal.at.loop-low-preserved-in-Less c).After-compare-order) ∙ c.in-Less.is in
-    (omega arith, omega arith, all_below origin_words origin_ascending d.args.word.now (middle (goal.at.loop-low-preserved-in-Less c).In-loop-low) (inside (goal.at.loop-low-preserved-in-Less c).In-loop-low) e, d.loop-low.invariant.3)
+    (omega arith, omega arith, all_below origin_words origin_ascending c.args.word.now (middle (goal.at.loop-low-preserved-in-Less c).In-loop-low) (inside (goal.at.loop-low-preserved-in-Less c).In-loop-low) e, c.loop-low.invariant.3)
 
 pub bounds-tags-middle : goal.bounds-tags-middle
 bounds-tags-middle c =
@@ -66,23 +64,21 @@ bounds-tags-middle c =
 pub returns-in-Equal : goal.returns-in-Equal
 unfolding origin_of
 returns-in-Equal c =
-    let d = c in
-    let tags = d.requires.1 in
+    let tags = c.requires.1 in
     let e = sym (compared (goal.at.returns-in-Equal c).After-compare-order) ∙ c.in-Equal.is in
     let r = c.tagged_by.ensures ∙ ap (λ (l : List ℕ). tagged_by (get_or l (middle (goal.at.returns-in-Equal c).In-loop-low) 0)) tags in
     ap Listed r
-    ∙ sym (listed_at origin_words origin_tags d.args.word.now (middle (goal.at.returns-in-Equal c).In-loop-low) (inside (goal.at.returns-in-Equal c).In-loop-low) (origin_tag_count ∙ sym origin_word_count)
-    (none_before origin_words origin_ascending d.args.word.now (middle (goal.at.returns-in-Equal c).In-loop-low) (inside (goal.at.returns-in-Equal c).In-loop-low) e)
-    (same_cmp (get_or origin_words (middle (goal.at.returns-in-Equal c).In-loop-low) []) d.args.word.now ∙ ap is_equal e))
+    ∙ sym (listed_at origin_words origin_tags c.args.word.now (middle (goal.at.returns-in-Equal c).In-loop-low) (inside (goal.at.returns-in-Equal c).In-loop-low) (origin_tag_count ∙ sym origin_word_count)
+    (none_before origin_words origin_ascending c.args.word.now (middle (goal.at.returns-in-Equal c).In-loop-low) (inside (goal.at.returns-in-Equal c).In-loop-low) e)
+    (same_cmp (get_or origin_words (middle (goal.at.returns-in-Equal c).In-loop-low) []) c.args.word.now ∙ ap is_equal e))
 
 pub loop-low-smaller : goal.loop-low-smaller
 loop-low-smaller c = omega arith
 
 pub loop-low-preserved : goal.loop-low-preserved
 loop-low-preserved c =
-    let d = c in
     let e = sym (compared (goal.at.loop-low-preserved c).After-compare-order) ∙ c.in-Greater.is in
-    (omega arith, omega arith, d.loop-low.invariant.2, (λ k l h. all_above origin_words origin_ascending d.args.word.now (middle (goal.at.loop-low-preserved c).In-loop-low) e k l (rw origin_word_count h)))
+    (omega arith, omega arith, c.loop-low.invariant.2, (λ k l h. all_above origin_words origin_ascending c.args.word.now (middle (goal.at.loop-low-preserved c).In-loop-low) e k l (rw origin_word_count h)))
 
 pub returns : goal.returns
 unfolding origin_of

@@ -20,8 +20,7 @@ loop-i-smaller c = omega arith
 
 pub loop-i-preserved : goal.loop-i-preserved
 loop-i-preserved c =
-    let d = c in
-    (omega arith, omega arith, omega (arith, chars_next d.args.s.now d.loop-i.i c.loop-i-test.true))
+    (omega arith, omega arith, omega (arith, chars_next c.args.s.now c.loop-i.i c.loop-i-test.true))
 
 pub returns : goal.returns
 returns c = omega (arith, chars-end c.args.s.now c.loop-i.i (omega arith))

@@ -12,9 +12,8 @@ bounds-s-i c = omega arith
 
 pub returns-then-is_forbidden : goal.returns-then-is_forbidden
 returns-then-is_forbidden c =
-    let d = c in
-    let here = forbidden_here d.args.s.now d.loop-i.i c.loop-i-test.true in
-    sym (d.loop-i.invariant.1 ∙ here (sym c.is_forbidden.ensures ∙ c.if-is_forbidden.true))
+    let here = forbidden_here c.args.s.now c.loop-i.i c.loop-i-test.true in
+    sym (c.loop-i.invariant.1 ∙ here (sym c.is_forbidden.ensures ∙ c.if-is_forbidden.true))
 
 pub overflow_add-i : goal.overflow_add-i
 overflow_add-i c = omega arith
@@ -24,11 +23,9 @@ loop-i-smaller c = omega arith
 
 pub loop-i-preserved : goal.loop-i-preserved
 loop-i-preserved c =
-    let d = c in
-    let on = forbidden_next d.args.s.now d.loop-i.i c.loop-i-test.true in
-    (omega arith, d.loop-i.invariant.1 ∙ on (sym c.is_forbidden.ensures ∙ c.if-is_forbidden.false))
+    let on = forbidden_next c.args.s.now c.loop-i.i c.loop-i-test.true in
+    (omega arith, c.loop-i.invariant.1 ∙ on (sym c.is_forbidden.ensures ∙ c.if-is_forbidden.false))
 
 pub returns : goal.returns
 returns c =
-    let d = c in
-    sym (d.loop-i.invariant.1 ∙ forbidden-end d.args.s.now d.loop-i.i c.loop-i-test.false)
+    sym (c.loop-i.invariant.1 ∙ forbidden-end c.args.s.now c.loop-i.i c.loop-i-test.false)

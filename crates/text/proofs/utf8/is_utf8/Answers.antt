@@ -19,11 +19,9 @@ loop-i-smaller c = omega arith
 
 pub loop-i-preserved : goal.loop-i-preserved
 loop-i-preserved c =
-    let d = c in
-    (omega arith, d.loop-i.invariant.1 ∙ run_next d.args.s.now d.loop-i.i c.loop-i-test.true _ _ c.next-state.ensures)
+    (omega arith, c.loop-i.invariant.1 ∙ run_next c.args.s.now c.loop-i.i c.loop-i-test.true _ _ c.next-state.ensures)
 
 pub returns : goal.returns
 unfolding is_utf8
 returns c =
-    let d = c in
-    c.is_whole.ensures ∙ sym (ap whole (d.loop-i.invariant.1 ∙ run_end d.args.s.now d.loop-i.i c.loop-i-test.false _))
+    c.is_whole.ensures ∙ sym (ap whole (c.loop-i.invariant.1 ∙ run_end c.args.s.now c.loop-i.i c.loop-i-test.false _))

@@ -7,12 +7,10 @@ use Rattle.tokens.proofs.lines.answer_of.Goals as goal
 
 pub returns-in-Wrote : goal.returns-in-Wrote
 returns-in-Wrote c =
-    let p = c in
-    let a = p.args in
-    (whole (printed a.text.now) a.out.now _ _ (omega (arith, printed-size a.text.now)) p.print_tokens-written.ensures.0 _ c.in-Wrote.is, p.print_tokens-written.ensures.1)
+    let a = c.args in
+    (whole (printed a.text.now) a.out.now _ _ (omega (arith, printed-size a.text.now)) c.print_tokens-written.ensures.0 _ c.in-Wrote.is, c.print_tokens-written.ensures.1)
 
 pub returns-in-Refused : goal.returns-in-Refused
 returns-in-Refused c =
-    let p = c in
-    let a = p.args in
-    absurd (never_short (printed a.text.now) a.out.now _ _ (omega (arith, printed-size a.text.now)) p.print_tokens-written.ensures.0 _ c.in-Refused.is)
+    let a = c.args in
+    absurd (never_short (printed a.text.now) a.out.now _ _ (omega (arith, printed-size a.text.now)) c.print_tokens-written.ensures.0 _ c.in-Refused.is)

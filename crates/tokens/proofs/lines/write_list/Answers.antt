@@ -8,5 +8,4 @@ returns-then-out-size c = written-not c.put_list-size.ensures c.if-out-size.true
 
 pub returns : goal.returns
 returns c =
-    let e = c in
-    written-whole e.put_list-size.ensures e.if-out-size.false (omega arith) c.put_list.ensures
+    written-whole c.put_list-size.ensures c.if-out-size.false (omega arith) c.put_list.ensures

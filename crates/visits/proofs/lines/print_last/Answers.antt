@@ -21,19 +21,15 @@ a-line sheet (b ∷ w) h = refl
 
 pub returns-then-word-eq0 : goal.returns-then-word-eq0
 returns-then-word-eq0 c =
-    let t = c in
-    let s = t in
-    let a = s.args in
-    whole_of a.out.now _ (last_line a.sheet.now a.word.now) _ (put_as (no_line a.sheet.now a.word.now t.if-word-eq0.true) c.put.ensures)
-    (omega (arith, last-size a.sheet.now a.word.now, s.requires.0)) (omega arith)
+    let a = c.args in
+    whole_of a.out.now _ (last_line a.sheet.now a.word.now) _ (put_as (no_line a.sheet.now a.word.now c.if-word-eq0.true) c.put.ensures)
+    (omega (arith, last-size a.sheet.now a.word.now, c.requires.0)) (omega arith)
 
 pub put_word-requires : goal.put_word-requires
 put_word-requires c = c.requires.1
 
 pub returns : goal.returns
 returns c =
-    let e = c in
-    let s = e in
-    let a = s.args in
-    whole_of a.out.now _ (last_line a.sheet.now a.word.now) _ (put_as (a-line a.sheet.now a.word.now e.if-word-eq0.false) c.put_word.ensures)
-    (omega (arith, last-size a.sheet.now a.word.now, s.requires.0)) (omega arith)
+    let a = c.args in
+    whole_of a.out.now _ (last_line a.sheet.now a.word.now) _ (put_as (a-line a.sheet.now a.word.now c.if-word-eq0.false) c.put_word.ensures)
+    (omega (arith, last-size a.sheet.now a.word.now, c.requires.0)) (omega arith)

@@ -12,8 +12,7 @@ put_lines-requires c = let a = c.requires in (search rules, a.0, a.2)
 
 pub returns : goal.returns
 returns c =
-    let s = c in
-    let a = s.args in
+    let a = c.args in
     let p = c.put_lines.ensures in
-    let n = length-take-le a.kept a.word.now (omega (arith, s.requires.0)) in
-    (whole_of a.out.now _ (lines_of a.sheet.now (take a.kept a.word.now) a.text.now) _ p.0 (omega (arith, lines-size a.sheet.now (take a.kept a.word.now) a.text.now, n, s.requires.0, s.requires.1)) (omega arith), p.1, p.2, search rules, search rules)
+    let n = length-take-le a.kept a.word.now (omega (arith, c.requires.0)) in
+    (whole_of a.out.now _ (lines_of a.sheet.now (take a.kept a.word.now) a.text.now) _ p.0 (omega (arith, lines-size a.sheet.now (take a.kept a.word.now) a.text.now, n, c.requires.0, c.requires.1)) (omega arith), p.1, p.2, search rules, search rules)

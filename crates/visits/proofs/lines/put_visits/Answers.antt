@@ -6,9 +6,4 @@ use Rattle.visits.proofs.lines.put_visits.Goals as goal
 pub returns : goal.returns
 unfolding visit_line
 returns c =
-    let p5 = c in
-    let p4 = p5 in
-    let p3 = p4 in
-    let p2 = p3 in
-    let p1 = p2 in
-    put_both p1.put-a.ensures (put_both p2.put_decimal-b.ensures (put_both p3.put-c.ensures (put_both p4.put-d.ensures p5.put.ensures)))
+    put_both c.put-a.ensures (put_both c.put_decimal-b.ensures (put_both c.put-c.ensures (put_both c.put-d.ensures c.put.ensures)))

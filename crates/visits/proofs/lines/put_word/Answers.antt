@@ -41,17 +41,9 @@ analyze_affixes_in-analysis-requires c = c.requires
 
 pub returns-in-Refused : goal.returns-in-Refused
 returns-in-Refused c =
-    let p = c in
-    let n = p in
-    let i = n in
-    let k = i in
-    put_as (ap refused_text n.numbers_of.ensures ∙ line_by (goal.at.returns-in-Refused c).After-prepare_word-inputs _ i.in-Refused.is) p.put_numbers.ensures
+    put_as (ap refused_text c.numbers_of.ensures ∙ line_by (goal.at.returns-in-Refused c).After-prepare_word-inputs _ c.in-Refused.is) c.put_numbers.ensures
 
 pub returns-in-Accepted : goal.returns-in-Accepted
 returns-in-Accepted c =
-    let p = c in
-    let a = p in
-    let e = a in
-    let k = e in
-    let accepted = word-said (w (goal.at.returns-in-Accepted c).After-prepare_word-inputs) k.prepare_word-inputs.result k.prepare_word-inputs.ensures e.in-Accepted.is in
-    put_as (ap (λ (n : ℕ). visit_line n (w (goal.at.returns-in-Accepted c).After-prepare_word-inputs)) (a.analyze_affixes_in-analysis.ensures.3 ∙ visits_are (w (goal.at.returns-in-Accepted c).After-prepare_word-inputs) (s (goal.at.returns-in-Accepted c).After-prepare_word-inputs) accepted k.requires.accepted) ∙ line_by (goal.at.returns-in-Accepted c).After-prepare_word-inputs _ e.in-Accepted.is) p.put_visits.ensures
+    let accepted = word-said (w (goal.at.returns-in-Accepted c).After-prepare_word-inputs) c.prepare_word-inputs.result c.prepare_word-inputs.ensures c.in-Accepted.is in
+    put_as (ap (λ (n : ℕ). visit_line n (w (goal.at.returns-in-Accepted c).After-prepare_word-inputs)) (c.analyze_affixes_in-analysis.ensures.3 ∙ visits_are (w (goal.at.returns-in-Accepted c).After-prepare_word-inputs) (s (goal.at.returns-in-Accepted c).After-prepare_word-inputs) accepted c.requires.accepted) ∙ line_by (goal.at.returns-in-Accepted c).After-prepare_word-inputs _ c.in-Accepted.is) c.put_visits.ensures
