@@ -4,7 +4,7 @@
     tools/tables.py [--check] [--source DIR]
 
 Reads tables.rs and origin.rs in docs/src/crates/shabda/src (or DIR) and writes
-    crates/tables/src/rows.rt       the constants: each table one run of bytes, with its row starts
+    crates/tables/src/rows.rt       the constants: each table an array of its rows
     crates/tables/specs/Rows.antt   the same rows as lists
     boundary/yunthirel/src/labels.rs, boundary/yunthirel_labels.h
                                     the texts of the rows that the exported functions name by number, for Rust and C
@@ -21,7 +21,6 @@ CODE = ROOT / "crates/tables/src/rows.rt"
 SPECS = ROOT / "crates/tables/specs/Rows.antt"
 LABELS_RUST = ROOT / "boundary/yunthirel/src/labels.rs"
 LABELS_C = ROOT / "boundary/yunthirel_labels.h"
-LETTERS = {"Tatsam": "t", "Tadbhav": "b", "Deshaj": "d", "Aagantuk": "a"}
 
 
 def body(text, name):
@@ -65,14 +64,11 @@ def read(source):
     return tables, [origin for _, origin in words]
 
 
-# the constants, each with the lists that it holds one after the other
+# the constants that hold texts alone, each with the lists that it holds one after the other
 CONSTANTS = [
-    ("PREFIX_LABELS", "PREFIX_LABEL_STARTS", "PREFIX_FORMS, the labels", ["prefix_labels"]),
-    ("PREFIX_FORMS", "PREFIX_FORM_STARTS", "PREFIX_FORMS, the surface forms", ["prefix_forms"]),
-    ("AFFIXES", "AFFIX_STARTS", "PLURAL_MARKERS, CASE_MARKERS and PARTICLES, the order of paths", ["plural_markers", "case_markers", "particles"]),
-    ("SUFFIXES", "SUFFIX_STARTS", "SUFFIXES", ["suffixes"]),
-    ("STRIP_SUFFIXES", "STRIP_SUFFIX_STARTS", "STRIP_SUFFIXES of origin.rs", ["strip_suffixes"]),
-    ("ORIGIN_WORDS", "ORIGIN_STARTS", "ORIGIN_TABLE, the words", ["origin_words"]),
+    ("AFFIXES", "PLURAL_MARKERS, CASE_MARKERS and PARTICLES, the order of paths", ["plural_markers", "case_markers", "particles"]),
+    ("SUFFIXES", "SUFFIXES", ["suffixes"]),
+    ("STRIP_SUFFIXES", "STRIP_SUFFIXES of origin.rs", ["strip_suffixes"]),
 ]
 
 # the lists, each with what it is
@@ -88,24 +84,23 @@ LISTS = [
 ]
 
 
+def array(name, kind, what, rows):
+    """A constant: its rows, a row a line."""
+    return ["", "// %s." % what, "pub const %s: [%s; %d] = [" % (name, kind, len(rows))] + ["    %s," % row for row in rows] + ["];"]
+
+
 def code(tables, origins):
     out = [
-        "// The tables' constants: each table's rows in one run of bytes, a row a line, then the byte at which each row begins, with its",
-        "// text, and the end of the last. Written by tools/tables.py from the source's tables.rs and origin.rs, as is specs/Rows.antt.",
-        "",
+        "// The tables' constants: each table an array of its rows, a row a line. Written by tools/tables.py from the source's tables.rs and",
+        "// origin.rs, as is specs/Rows.antt.",
+        "use crate::origins::Origin;",
     ]
-    for name, starts_name, what, lists in CONSTANTS:
-        rows = [row for name in lists for row in tables[name]]
-        lengths = [len(text.encode()) for text, _ in rows]
-        starts = [sum(lengths[:k]) for k in range(len(rows) + 1)]
-        out.append("// " + what + ".")
-        out.append("pub const %s: [u8; %d] = *b\"\\" % (name, starts[-1]))
-        lines = ["".join("\\x%02X" % b for b in text.encode()) for text, _ in rows]
-        out += [line + "\\" for line in lines[:-1]] + [lines[-1] + '";', ""]
-        out.append("pub const %s: [u16; %d] = [" % (starts_name, len(starts)))
-        out += ["    %d, // %s" % (start, note) for start, (_, note) in zip(starts, rows)] + ["    %d, // the end" % starts[-1], "];", ""]
-    out += ["// ORIGIN_TABLE, the origins: the letter that tags each row's word in a sheet, t b d a."]
-    out += ["pub const ORIGIN_TAGS: [u8; %d] =" % len(origins), "    *b\"%s\";" % "".join(LETTERS[o] for o in origins)]
+    forms = ['("%s", "%s")' % (label, form) for (label, _), (form, _) in zip(tables["prefix_labels"], tables["prefix_forms"])]
+    out += array("PREFIX_FORMS", "(&str, &str)", "PREFIX_FORMS, each label with its surface form", forms)
+    for name, what, lists in CONSTANTS:
+        out += array(name, "&str", what, ['"%s"' % text for part in lists for text, _ in tables[part]])
+    rows = ['("%s", Origin::%s)' % (word, origin) for (word, _), origin in zip(tables["origin_words"], origins)]
+    out += array("ORIGIN_TABLE", "(&str, Origin)", "ORIGIN_TABLE, which ascends by its words", rows)
     return "\n".join(out) + "\n"
 
 

@@ -1,4 +1,5 @@
 -- What an accepted word and sheet give the walk. The proofs of the entries cite these. Assumes nothing.
+use Rattle.std.specs.Prelude.{Err, Ok}
 use Prim.Native.Nat.{ℕ, zero, suc, ◌≤◌, ◌<◌}
 use native.Mathlib.Omega.{arith}
 use mathlib.Core.Path.{◌≡◌, refl, ap}
@@ -14,14 +15,14 @@ use Rattle.ranking.specs.declared.Classified.{Classified}
 use Rattle.text.specs.Utf8.{is_utf8}
 use Rattle.text.specs.Names.{holds_forbidden}
 use Rattle.text.specs.Word.{word_limit, word_check}
-use Rattle.text.specs.declared.word.WordCheck.TheVariants.{Accepted, TooLong, NotUtf8, Forbidden}
+use Rattle.text.specs.declared.word.WordFault.TheVariants.{TooLong, NotUtf8, Forbidden}
 
 -- an accepted word is short, and UTF-8
-pub word-parts : (w : List ℕ) → word_check w ≡ Accepted → (length w ≤ 192) × (is_utf8 w ≡ true)
+pub word-parts : (w : List ℕ) → word_check w ≡ Ok tt → (length w ≤ 192) × (is_utf8 w ≡ true)
 unfolding word_check
 word-parts w = by (ltb word_limit (length w)) (is_utf8 w) (holds_forbidden w) refl refl
   where
-    by : (a b c : Bool) → ltb word_limit (length w) ≡ a → is_utf8 w ≡ b → pick a TooLong (pick (not b) NotUtf8 (pick c Forbidden Accepted)) ≡ Accepted → (length w ≤ 192) × (is_utf8 w ≡ true)
+    by : (a b c : Bool) → ltb word_limit (length w) ≡ a → is_utf8 w ≡ b → pick a (Err TooLong) (pick (not b) (Err NotUtf8) (pick c (Err Forbidden) (Ok (tt {0})))) ≡ Ok (tt {0}) → (length w ≤ 192) × (is_utf8 w ≡ true)
     by true b c p q e = let z : ◌≡◌ {A = ℕ} 0 1 = cc in absurd (omega arith)
     by false false c p q e = let z : ◌≡◌ {A = ℕ} 0 1 = cc in absurd (omega arith)
     by false true c p q e = (ltb-false word_limit (length w) p, q)

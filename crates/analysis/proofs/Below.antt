@@ -1,6 +1,7 @@
 -- What a row's strip of a piece leaves, and a visit of what it leaves, as the walk says them: the proof of the walk cites these.
 -- Assumes nothing.
-use Rattle.std.proofs.Common.{◌≡◌, ℕ, ◌+◌, ◌-◌, ◌≤◌, Bool, List, [], length, take, get_or, sym, ap, ◌∙◌, subst, arith, length-take-le}
+use Rattle.std.proofs.Common.{◌≡◌, ℕ, ◌+◌, ◌-◌, ◌≤◌, Bool, Option, Some, None, List, [], length, take, get_or, refl, sym, ap, ◌∙◌, subst, arith, length-take-le}
+use Rattle.std.specs.Prelude.{IfSome}
 use Rattle.tables.specs.Tables.{affixes}
 use Rattle.strips.specs.Suffix.{rests_of}
 use Rattle.strips.specs.declared.suffix.Rests.{Rests}
@@ -14,8 +15,13 @@ use Rattle.paths.specs.Walk.{pushed_of, piece_walk}
 use Rattle.paths.specs.Weighed.{weighed}
 use Rattle.analysis.proofs.Strips.{Lefts, lefts}
 
+-- what is not some number is none
+pub is_none_else : (o : Option ℕ) → ((n : ℕ) → o ≡ Some n → ⊥) → o ≡ None
+is_none_else None h = refl
+is_none_else (Some n) h = absurd (h n refl)
+
 module _ (word : List ℕ) (end k : ℕ) (within : end ≤ length word) (r : Rests) (e : r ≡ rests_of (take end word) (get_or affixes k [])) where
-  -- what is left, by how many remainders there are
+  -- what is left, by which remainders there are
   pub left_are : Lefts (take end word) (get_or affixes k []) r
   left_are = subst (Lefts (take end word) (get_or affixes k [])) (sym e) (lefts (take end word) (get_or affixes k []))
 
@@ -23,11 +29,15 @@ module _ (word : List ℕ) (end k : ℕ) (within : end ≤ length word) (r : Res
   inside_are : Inside (take end word) r
   inside_are = subst (Inside (take end word)) (sym e) (rests_inside (take end word) (get_or affixes k []))
 
-  pub plain_in : r.plain ≤ end
-  plain_in = omega (arith, inside_are.plain_in, length-take-le end word within)
+  some_in : (o : Option ℕ) (n : ℕ) → IfSome o (λ k. k ≤ length (take end word)) → o ≡ Some n → n ≤ end
+  some_in None n h e = absurd (let z : ◌≡◌ {A = ℕ} 0 1 = cc in omega arith)
+  some_in (Some k) n h e = let q : k ≡ n = cc in omega (arith, h, length-take-le end word within)
 
-  pub shared_in : r.shared ≤ end
-  shared_in = omega (arith, inside_are.shared_in, length-take-le end word within)
+  pub plain_in : (n : ℕ) → r.plain ≡ Some n → n ≤ end
+  plain_in n = some_in r.plain n inside_are.plain_in
+
+  pub shared_in : (n : ℕ) → r.shared ≡ Some n → n ≤ end
+  shared_in n = some_in r.shared n inside_are.shared_in
 
 -- the chain with the row's suffix, marked plain or shared
 module _ (ask : Ask) (chain : Chain) (k : ℕ) (kind : AffixKind) (ek : kind ≡ kind_of ask k) (b : Bool) (next : Chain)

@@ -1,4 +1,5 @@
 -- Pieces of the word by their places, and the record of a root by its places. The proofs of the walk cite these. Assumes nothing.
+use Rattle.std.specs.Prelude.{None, Option, Some}
 use Prim.Native.Nat.{ℕ, zero, suc, ◌+◌, ◌-◌, ◌<◌, ◌≤◌}
 use native.Mathlib.Omega.{arith}
 use native.Mathlib.Nat.{sub-zero, zero-sub, suc-sub-suc}
@@ -8,8 +9,6 @@ use lib.ListN.{length, take, drop, length-drop}
 use lib.Seq.{length-take-le, drop-drop, take-nil}
 use Rattle.runs.specs.Runs.{pick}
 use Rattle.strips.specs.Prefix.{prefix_remainder, rest_of, behind}
-use Rattle.strips.specs.declared.prefix.Rest.TheVariants.{Nothing, From}
-use Rattle.strips.specs.declared.prefix.Rest.{Rest}
 use Rattle.strips.proofs.Remainders.{rest-says}
 use Rattle.tables.specs.Rows.{prefix_forms}
 use Rattle.tables.specs.Tables.{Laid, row_at}
@@ -39,10 +38,10 @@ module _ (w : List ℕ) (b e : ℕ) where
   between-length h k = let n : e - b ≤ length (drop b w) = rw (length-drop b w) (omega arith) in length-take-le (e - b) (drop b w) n
 
   -- what a form leaves, as the code says it
-  pub none_left : (form : List ℕ) → Nothing ≡ rest_of (between w b e) form → prefix_remainder (between w b e) form ≡ []
+  pub none_left : (form : List ℕ) → None ≡ rest_of (between w b e) form → prefix_remainder (between w b e) form ≡ []
   none_left form q = sym (rest-says (between w b e) form) ∙ ap (behind (between w b e)) (sym q)
 
-  pub one_left : (form : List ℕ) (n : ℕ) → From n ≡ rest_of (between w b e) form → prefix_remainder (between w b e) form ≡ between w (b + n) e ∷ []
+  pub one_left : (form : List ℕ) (n : ℕ) → Some n ≡ rest_of (between w b e) form → prefix_remainder (between w b e) form ≡ between w (b + n) e ∷ []
   one_left form n q = sym (rest-says (between w b e) form) ∙ ap (behind (between w b e)) (sym q) ∙ ap (λ (l : List ℕ). l ∷ []) (cut-more n)
 
   -- the reading of a root, by texts and by places
@@ -56,10 +55,10 @@ module _ (w : List ℕ) (b e : ℕ) where
 
 -- the same of a front part of the word
 module _ (w : List ℕ) (e : ℕ) where
-  pub front-none : (form : List ℕ) → Nothing ≡ rest_of (take e w) form → prefix_remainder (take e w) form ≡ []
+  pub front-none : (form : List ℕ) → None ≡ rest_of (take e w) form → prefix_remainder (take e w) form ≡ []
   front-none form q = sym (rest-says (take e w) form) ∙ ap (behind (take e w)) (sym q)
 
-  pub front-left : (form : List ℕ) (n : ℕ) → From n ≡ rest_of (take e w) form → prefix_remainder (take e w) form ≡ between w n e ∷ []
+  pub front-left : (form : List ℕ) (n : ℕ) → Some n ≡ rest_of (take e w) form → prefix_remainder (take e w) form ≡ between w n e ∷ []
   front-left form n q = sym (rest-says (take e w) form) ∙ ap (behind (take e w)) (sym q) ∙ ap (λ (l : List ℕ). l ∷ []) (drop-take n e w)
 
   -- the whole of a front part, by places
@@ -67,6 +66,6 @@ module _ (w : List ℕ) (e : ℕ) where
   whole-front = rw (sub-zero e)
 
 -- what a prefix row leaves of a piece, asked by its form as the table has it
-pub asked : {bytes starts : List ℕ} → Laid prefix_forms bytes starts → (k : ℕ) → k < length prefix_forms → (piece found : List ℕ) (r : Rest)
+pub asked : {bytes starts : List ℕ} → Laid prefix_forms bytes starts → (k : ℕ) → k < length prefix_forms → (piece found : List ℕ) (r : Option ℕ)
     → r ≡ rest_of piece found → found ≡ row_at bytes starts k → r ≡ rest_of piece (form_of k)
 asked laid k h piece found r e f = e ∙ ap (rest_of piece) (f ∙ laid-row laid k h)

@@ -1,3 +1,4 @@
+pub mod Answered
 pub mod Siblings
 pub mod Supported
 pub mod Added

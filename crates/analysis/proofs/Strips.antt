@@ -8,6 +8,7 @@ use mathlib.Core.List.{List, [], ◌∷◌, ◌++◌, append-nil}
 use lib.ListN.{length, take, get_or}
 use lib.Seq.{take-take}
 use lib.Dec.{ltb}
+use Rattle.std.specs.Prelude.{Some, None}
 use Rattle.runs.specs.Runs.{pick, ends_in}
 use Rattle.tables.specs.Tables.{affixes}
 use Rattle.strips.specs.Suffix.{sheds, is_long, plain, shared, rests_of, without, first_character, plain_length, shared_length}
@@ -23,26 +24,41 @@ use Rattle.paths.specs.Readings.{segment_of}
 use Rattle.paths.specs.Walk.{pushed_of, stem_walk, row_walk, rows_walk, piece_walk}
 use Rattle.analysis.proofs.Turns.{plus-append}
 
--- the two remainders of a piece, by how many there are
+-- the two remainders of a piece, each by whether there is one
 module _ (p t : List ℕ) where
-  abbrev pub Lefts : Rests → Type 0
-  Lefts r =
-      (r.count ≡ 0 → (plain p t ≡ []) × (shared p t ≡ []))
-      × (r.count ≡ 1 → (plain p t ≡ take r.plain p ∷ []) × (shared p t ≡ []))
-      × ((r.count ≡ 0 → ⊥) → (r.count ≡ 1 → ⊥) → (plain p t ≡ take r.plain p ∷ []) × (shared p t ≡ take r.shared p ∷ []))
+  pub record Lefts (r : Rests) : Type 0 where
+    pub none : r.plain ≡ None → (plain p t ≡ []) × (shared p t ≡ [])
+    pub plain_left : (n : ℕ) → r.plain ≡ Some n → plain p t ≡ take n p ∷ []
+    pub no_shared_left : r.shared ≡ None → shared p t ≡ []
+    pub shared_left : (n : ℕ) → r.shared ≡ Some n → shared p t ≡ take n p ∷ []
+
+  one : (n m : ℕ) → Some n ≡ Some m → take n p ∷ [] ≡ take m p ∷ []
+  one n m e = let q : n ≡ m = cc in ap (λ (k : ℕ). take k p ∷ []) q
+
+  is_none : (n : ℕ) {A : Type 0} → Some n ≡ None → A
+  is_none n e = absurd (let z : ◌≡◌ {A = ℕ} 0 1 = cc in omega arith)
+
+  is_some : (n : ℕ) {A : Type 0} → None ≡ Some n → A
+  is_some n e = absurd (let z : ◌≡◌ {A = ℕ} 0 1 = cc in omega arith)
 
   pub lefts : Lefts (rests_of p t)
   unfolding rests_of plain shared
-  lefts = by (sheds p t) (is_long t) refl
+  lefts = let l = by (sheds p t) (is_long t) refl in record { none = l.0; plain_left = l.1; no_shared_left = l.2; shared_left = l.3 }
     where
       by : (a b : Bool) → sheds p t ≡ a →
-          let r : Rests = pick a (pick b (record { count = 2; plain = plain_length p t; shared = shared_length p t }) (record { count = 1; plain = plain_length p t; shared = 0 })) (record { count = 0; plain = 0; shared = 0 }) in
-          (r.count ≡ 0 → (pick a (without p t ∷ []) [] ≡ []) × (pick (a && b) ((without p t ++ first_character t) ∷ []) [] ≡ []))
-          × (r.count ≡ 1 → (pick a (without p t ∷ []) [] ≡ take r.plain p ∷ []) × (pick (a && b) ((without p t ++ first_character t) ∷ []) [] ≡ []))
-          × ((r.count ≡ 0 → ⊥) → (r.count ≡ 1 → ⊥) → (pick a (without p t ∷ []) [] ≡ take r.plain p ∷ []) × (pick (a && b) ((without p t ++ first_character t) ∷ []) [] ≡ take r.shared p ∷ []))
-      by true true e = ((λ q. absurd (omega arith)), (λ q. absurd (omega arith)), (λ n m. (refl, ap (λ (l : List ℕ). l ∷ []) (shared-front p t e))))
-      by true false e = ((λ q. absurd (omega arith)), (λ q. (refl, refl)), (λ n m. absurd (m refl)))
-      by false b e = ((λ q. (refl, refl)), (λ q. absurd (omega arith)), (λ n m. absurd (n refl)))
+          let r : Rests = record { plain = pick a (Some (plain_length p t)) None; shared = pick (a && b) (Some (shared_length p t)) None } in
+          let x = pick a (without p t ∷ []) [] in
+          let y = pick (a && b) ((without p t ++ first_character t) ∷ []) [] in
+          (r.plain ≡ None → (x ≡ []) × (y ≡ [])) × ((n : ℕ) → r.plain ≡ Some n → x ≡ take n p ∷ [])
+          × (r.shared ≡ None → y ≡ []) × ((n : ℕ) → r.shared ≡ Some n → y ≡ take n p ∷ [])
+      by true true e = (
+        (λ q. is_none _ q),
+        (λ n q. one _ n q),
+        (λ q. is_none _ q),
+        (λ n q. ap (λ (l : List ℕ). l ∷ []) (shared-front p t e) ∙ one _ n q),
+      )
+      by true false e = ((λ q. is_none _ q), (λ n q. one _ n q), (λ q. refl), (λ n q. is_some n q))
+      by false b e = ((λ q. (refl, refl)), (λ n q. is_some n q), (λ q. refl), (λ n q. is_some n q))
 
 -- a front part of a front part of the word
 pub shorter : (w : List ℕ) (n e : ℕ) → n ≤ e → take n (take e w) ∷ [] ≡ take n w ∷ []

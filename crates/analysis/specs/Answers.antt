@@ -1,34 +1,27 @@
 -- What the core call and the two beside it hand back (document 01, "What an entry hands back"): the refusals of word and sheet, then 7
 -- for more than 64 readings, else the list. Assumes nothing.
-use Rattle.std.specs.Prelude.{ℕ, Bool, true, false, List, [], ◌∷◌, map}
+use Rattle.refusals.specs.declared.Refusal.{Refusal}
+use Rattle.std.specs.Prelude.{ℕ, Bool, true, false, List, [], ◌∷◌, map, Err, Ok, Result}
 use Rattle.runs.specs.Runs.{pick}
 use Rattle.text.specs.Characters.{chars}
 use Rattle.refusals.specs.Refusals.{numbers_of}
 use Rattle.refusals.specs.declared.Refusal.TheVariants.{TooManyReadings}
 use Rattle.sheet.specs.Inputs.{inputs_of}
 use Rattle.sheet.specs.Replies.{Ask, reply}
-use Rattle.sheet.specs.declared.inputs.Inputs.{Inputs}
-use Rattle.sheet.specs.declared.inputs.Inputs.TheVariants as inputs
 use Rattle.ranking.specs.Lists.{Rows, rows, over, plus_all}
 use Rattle.ranking.specs.declared.Classified.{Classified}
 use Rattle.paths.specs.Readings.{classified}
 use Rattle.paths.specs.Walk.{word_walk}
 use Rattle.paths.specs.Visits.{visits_of}
-use Rattle.analysis.specs.declared.entry.Said.{Said}
-use Rattle.analysis.specs.declared.entry.Said.TheVariants.{Listed, Refused}
 use Rattle.analysis.specs.declared.entry.Best.{Best}
-use Rattle.analysis.specs.declared.entry.Has.{Has}
-use Rattle.analysis.specs.declared.entry.Has.TheVariants as has
-use Rattle.analysis.specs.declared.entry.Visits.{Visits}
-use Rattle.analysis.specs.declared.entry.Visits.TheVariants as visits
 
 -- all readings of w under the sheet s as the walk keeps them, in rank order, or that there are more than 64
 abbrev pub collected : List ℕ → List ℕ → Rows
 collected w s = plus_all w (rows []) (word_walk (reply s) (chars w) w)
 
-abbrev pub by_rows : Rows → Said
-by_rows (rows rs) = Listed
-by_rows over = Refused TooManyReadings
+abbrev pub by_rows : Rows → Result (Unit {0}) Refusal
+by_rows (rows rs) = Ok tt
+by_rows over = Err TooManyReadings
 
 -- the rows that are handed out of them: each reading with its root's origin, source and confidence
 abbrev pub listed_rows : Ask → List ℕ → Rows → List Classified
@@ -36,16 +29,16 @@ listed_rows ask w (rows rs) = map (classified ask w) rs
 listed_rows ask w over = []
 
 -- what is said, by what is said of word and sheet together, and of what has been collected
-abbrev pub said_by : Inputs → Rows → Said
-said_by inputs.Accepted c = by_rows c
-said_by (inputs.Refused r) c = Refused r
+abbrev pub said_by : Result (Unit {0}) Refusal → Rows → Result (Unit {0}) Refusal
+said_by (Ok _) c = by_rows c
+said_by (Err r) c = Err r
 
-abbrev pub rows_by : Inputs → List Classified → List Classified
-rows_by inputs.Accepted rs = rs
-rows_by (inputs.Refused r) rs = []
+abbrev pub rows_by : Result (Unit {0}) Refusal → List Classified → List Classified
+rows_by (Ok _) rs = rs
+rows_by (Err r) rs = []
 
 -- what is said of the word w and the sheet s
-unfoldable pub said_of : List ℕ → List ℕ → Said
+unfoldable pub said_of : List ℕ → List ℕ → Result (Unit {0}) Refusal
 said_of w s = said_by (inputs_of w s) (collected w s)
 
 -- the rows of the list: those collected where word and sheet are accepted, else none
@@ -54,25 +47,25 @@ rows_given w s = rows_by (inputs_of w s) (listed_rows (reply s) w (collected w s
 
 -- the pieces visited: those of an accepted word under an accepted sheet, also where there are too many readings; none where either is
 -- refused
-abbrev pub visits_by : Inputs → ℕ → ℕ
-visits_by inputs.Accepted n = n
-visits_by (inputs.Refused r) n = 0
+abbrev pub visits_by : Result (Unit {0}) Refusal → ℕ → ℕ
+visits_by (Ok _) n = n
+visits_by (Err r) n = 0
 
 unfoldable pub visits_given : List ℕ → List ℕ → ℕ
 visits_given w s = visits_by (inputs_of w s) (visits_of (reply s) w)
 
 -- the number alone, or why there is none: a refusal of word or sheet
-abbrev pub visits_in : Inputs → ℕ → Visits
-visits_in inputs.Accepted n = visits.Given n
-visits_in (inputs.Refused r) n = visits.Refused r
+abbrev pub visits_in : Result (Unit {0}) Refusal → ℕ → Result ℕ Refusal
+visits_in (Ok _) n = Ok n
+visits_in (Err r) n = Err r
 
-unfoldable pub visits_answer : List ℕ → List ℕ → Visits
+unfoldable pub visits_answer : List ℕ → List ℕ → Result ℕ Refusal
 visits_answer w s = visits_in (inputs_of w s) (visits_of (reply s) w)
 
 -- the number of each answer with its place; none where the list is given
-abbrev pub said_numbers : Said → List ℕ
-said_numbers Listed = []
-said_numbers (Refused r) = numbers_of r
+abbrev pub said_numbers : Result (Unit {0}) Refusal → List ℕ
+said_numbers (Ok _) = []
+said_numbers (Err r) = numbers_of r
 
 -- the reading that such an answer holds, one or none
 abbrev pub best_rows : Best → List Classified
@@ -83,14 +76,14 @@ abbrev pub is_some : List Classified → Bool
 is_some [] = false
 is_some (r ∷ rs) = true
 
-abbrev pub has_by : Said → Bool → Has
-has_by Listed b = has.Given b
-has_by (Refused r) b = has.Refused r
+abbrev pub has_by : Result (Unit {0}) Refusal → Bool → Result Bool Refusal
+has_by (Ok _) b = Ok b
+has_by (Err r) b = Err r
 
-unfoldable pub has_of : List ℕ → List ℕ → Has
+unfoldable pub has_of : List ℕ → List ℕ → Result Bool Refusal
 has_of w s = has_by (said_of w s) (is_some (rows_given w s))
 
 -- the same of a yes or no
-abbrev pub has_numbers : Has → List ℕ
-has_numbers (has.Given b) = []
-has_numbers (has.Refused r) = numbers_of r
+abbrev pub has_numbers : Result Bool Refusal → List ℕ
+has_numbers (Ok b) = []
+has_numbers (Err r) = numbers_of r

@@ -3,7 +3,7 @@ use Rattle.std.specs.Prelude.{ℕ, ◌-◌, ◌≤◌, List, [], ◌∷◌, leng
 use Rattle.tables.specs.Rows.{prefix_forms}
 use Rattle.tables.specs.Tables.{Laid, affixes}
 use Rattle.runs.specs.Runs.{pick}
-use Rattle.sheet.specs.Replies.{Ask, Indexed}
+use Rattle.sheet.specs.Replies.{Ask}
 use Rattle.ranking.specs.declared.Reading.{Reading}
 use Rattle.paths.specs.declared.Chain.{Chain}
 use Rattle.paths.specs.declared.Prefixes.{Prefixes}
@@ -19,9 +19,8 @@ abbrev pub root_found : Ask → ℕ → Chain → List ℕ → ℕ → ℕ → P
 root_found ask surface c w e b prefixes =
     pick (is_supported ask (between w b e)) (built ask surface e b (between w b e) prefixes c ∷ []) []
 
--- what every step of the walk is lent: an accepted sheet with its line starts, a word of at most 192 bytes, and the two tables
-pub record Lent (word sheet starts texts cuts forms form_cuts : List ℕ) : Type 0 where
-  pub indexed : Indexed sheet starts
+-- what every step of the walk is lent: a word of at most 192 bytes, and the two tables
+pub record Lent (word texts cuts forms form_cuts : List ℕ) : Type 0 where
   pub texts_laid : Laid affixes texts cuts
   pub forms-laid : Laid prefix_forms forms form_cuts
   pub short : length word ≤ 192

@@ -3,7 +3,7 @@ ghost use Rattle.std.specs.Prelude.{◌≡◌, [], ◌∷◌, ◌+◌, ◌-◌, 
 ghost use Rattle.runs.specs.Runs.{begins_with};
 ghost use Rattle.tables.specs.Rows.{prefix_forms};
 ghost use Rattle.tables.specs.Tables.{Laid, affixes};
-ghost use Rattle.sheet.specs.Replies.{Indexed, reply};
+ghost use Rattle.lookup.specs.Lexicons.{replies};
 ghost use Rattle.progressive.specs.Progressive.{is_progressive};
 ghost use Rattle.ranking.specs.Lists.{list_limit, plus_all};
 ghost use Rattle.ranking.specs.Kept.{kept_of, HasRoom};
@@ -15,11 +15,11 @@ ghost use Rattle.analysis.specs.Places.{between, Lent};
 
 use crate::fronts::may_begin;
 use crate::roots::with_root;
-use lookup::starts::Start;
+use lookup::lexicon::Lexicon;
 use paths::{FORMS, Piece, Prefixes, Tally};
 use progressive::find::has_supported_progressive_form;
 use runs::begins_with;
-use strips::prefix::{Rest, prefix_rest};
+use strips::prefix::prefix_rest;
 use tables::row;
 
 // Whether the word's part from byte `from` up to byte `stem` begins with the form of row k. Most parts do not, and then nothing
@@ -36,8 +36,7 @@ fn begins(word: &[u8], forms: &[u8], form_cuts: &[u16], from: usize, stem: usize
 // the entries of the source's prefix walk as it goes.
 fn second_row(
     word: &[u8],
-    sheet: &[u8],
-    starts: &[Start],
+    sheet: &Lexicon<'_>,
     texts: &[u8],
     cuts: &[u16],
     forms: &[u8],
@@ -50,26 +49,25 @@ fn second_row(
     n: usize,
     out: &mut [u8],
 ) -> Tally
-    requires { Lent word.now sheet.now starts.now texts.now cuts.now forms.now form_cuts.now
+    requires { Lent word.now texts.now cuts.now forms.now form_cuts.now
         × (from ≤ at.end) × (at.end ≤ length word.now) × (second < all_forms) × (surface ≤ 192) × (at.chain.count ≤ most_strips) × HasRoom out.old n }
     ensures { (kept_of out.new result.kept ≡ plus_all word.now (kept_of out.old n)
-        (on_left (root_walk (reply sheet.now) surface at.chain (take at.end word.now) (first ∷ second ∷ []))
+        (on_left (root_walk (replies sheet.now) surface at.chain (take at.end word.now) (first ∷ second ∷ []))
         (prefix_remainder (between word.now from at.end) (form_of second)))) × (result.kept ≤ list_limit + 1)
-        × (result.visits ≡ total (prefix_visits 0 (reply sheet.now)) (prefix_remainder (between word.now from at.end) (form_of second))) }
+        × (result.visits ≡ total (prefix_visits 0 (replies sheet.now)) (prefix_remainder (between word.now from at.end) (form_of second))) }
 {
     let stem = at.end;
     let k = second as usize;
     let form = row(forms, form_cuts, k);
     let rest = prefix_rest(&word[from..stem], form);
     match rest {
-        Rest::Nothing => Tally { kept: n, visits: 0 },
-        Rest::From(cut) => {
+        None => Tally { kept: n, visits: 0 },
+        Some(cut) => {
             let root = from + cut;
-            let progressive = has_supported_progressive_form(sheet, starts, &word[root..stem]);
+            let progressive = has_supported_progressive_form(sheet, &word[root..stem]);
             let kept = with_root(
                 word,
                 sheet,
-                starts,
                 texts,
                 cuts,
                 at,
@@ -91,8 +89,7 @@ fn second_row(
 // All rows for the second prefix, behind the first.
 fn second_rows(
     word: &[u8],
-    sheet: &[u8],
-    starts: &[Start],
+    sheet: &Lexicon<'_>,
     texts: &[u8],
     cuts: &[u16],
     forms: &[u8],
@@ -104,12 +101,12 @@ fn second_rows(
     n: usize,
     out: &mut [u8],
 ) -> Tally
-    requires { Lent word.now sheet.now starts.now texts.now cuts.now forms.now form_cuts.now
+    requires { Lent word.now texts.now cuts.now forms.now form_cuts.now
         × (from ≤ at.end) × (at.end ≤ length word.now) × (surface ≤ 192) × (at.chain.count ≤ most_strips) × HasRoom out.old n }
     ensures { (kept_of out.new result.kept ≡ plus_all word.now (kept_of out.old n)
-        (over_forms (λ second left. root_walk (reply sheet.now) surface at.chain (take at.end word.now) (first ∷ second ∷ []) left)
+        (over_forms (λ second left. root_walk (replies sheet.now) surface at.chain (take at.end word.now) (first ∷ second ∷ []) left)
         (between word.now from at.end) 0 all_forms)) × (result.kept ≤ list_limit + 1)
-        × (result.visits ≡ total (λ form. total (prefix_visits 0 (reply sheet.now)) (prefix_remainder (between word.now from at.end) form)) prefix_forms) }
+        × (result.visits ≡ total (λ form. total (prefix_visits 0 (replies sheet.now)) (prefix_remainder (between word.now from at.end) form)) prefix_forms) }
 {
     let stem = at.end;
     let mut f = n;
@@ -120,8 +117,8 @@ fn second_rows(
         k += 1;
         if begins(word, forms, form_cuts, from, stem, second) {
             let r = second_row(
-                word, sheet, starts, texts, cuts, forms, form_cuts, at, from, first, second,
-                surface, f, out,
+                word, sheet, texts, cuts, forms, form_cuts, at, from, first, second, surface, f,
+                out,
             );
             f = r.kept;
             v += r.visits;
@@ -133,8 +130,7 @@ fn second_rows(
 // One row for the first prefix: its own reading, and, where what it leaves is no progressive form, those of a second prefix.
 fn first_row(
     word: &[u8],
-    sheet: &[u8],
-    starts: &[Start],
+    sheet: &Lexicon<'_>,
     texts: &[u8],
     cuts: &[u16],
     forms: &[u8],
@@ -145,25 +141,24 @@ fn first_row(
     n: usize,
     out: &mut [u8],
 ) -> Tally
-    requires { Lent word.now sheet.now starts.now texts.now cuts.now forms.now form_cuts.now
+    requires { Lent word.now texts.now cuts.now forms.now form_cuts.now
         × (at.end ≤ length word.now) × (first < all_forms) × (surface ≤ 192) × (at.chain.count ≤ most_strips) × HasRoom out.old n }
     ensures { (kept_of out.new result.kept ≡ plus_all word.now (kept_of out.old n)
-        (on_left (second_walk (reply sheet.now) surface at.chain (take at.end word.now) first)
+        (on_left (second_walk (replies sheet.now) surface at.chain (take at.end word.now) first)
         (prefix_remainder (take at.end word.now) (form_of first)))) × (result.kept ≤ list_limit + 1)
-        × (result.visits ≡ total (prefix_visits 1 (reply sheet.now)) (prefix_remainder (take at.end word.now) (form_of first))) }
+        × (result.visits ≡ total (prefix_visits 1 (replies sheet.now)) (prefix_remainder (take at.end word.now) (form_of first))) }
 {
     let stem = at.end;
     let k = first as usize;
     let form = row(forms, form_cuts, k);
     let rest = prefix_rest(&word[..stem], form);
     match rest {
-        Rest::Nothing => Tally { kept: n, visits: 0 },
-        Rest::From(root) => {
-            let progressive = has_supported_progressive_form(sheet, starts, &word[root..stem]);
+        None => Tally { kept: n, visits: 0 },
+        Some(root) => {
+            let progressive = has_supported_progressive_form(sheet, &word[root..stem]);
             let f = with_root(
                 word,
                 sheet,
-                starts,
                 texts,
                 cuts,
                 at,
@@ -184,8 +179,7 @@ fn first_row(
                 return Tally { kept: f, visits: 1 };
             }
             let more = second_rows(
-                word, sheet, starts, texts, cuts, forms, form_cuts, at, root, first, surface, f,
-                out,
+                word, sheet, texts, cuts, forms, form_cuts, at, root, first, surface, f, out,
             );
             Tally {
                 kept: more.kept,
@@ -198,8 +192,7 @@ fn first_row(
 // All rows for the first prefix.
 fn first_rows(
     word: &[u8],
-    sheet: &[u8],
-    starts: &[Start],
+    sheet: &Lexicon<'_>,
     texts: &[u8],
     cuts: &[u16],
     forms: &[u8],
@@ -209,11 +202,11 @@ fn first_rows(
     n: usize,
     out: &mut [u8],
 ) -> Tally
-    requires { Lent word.now sheet.now starts.now texts.now cuts.now forms.now form_cuts.now
+    requires { Lent word.now texts.now cuts.now forms.now form_cuts.now
         × (at.end ≤ length word.now) × (surface ≤ 192) × (at.chain.count ≤ most_strips) × HasRoom out.old n }
     ensures { (kept_of out.new result.kept ≡ plus_all word.now (kept_of out.old n)
-        (over_forms (second_walk (reply sheet.now) surface at.chain (take at.end word.now)) (take at.end word.now) 0 all_forms)) × (result.kept ≤ list_limit + 1)
-        × (result.visits ≡ total (λ form. total (prefix_visits 1 (reply sheet.now)) (prefix_remainder (take at.end word.now) form)) prefix_forms) }
+        (over_forms (second_walk (replies sheet.now) surface at.chain (take at.end word.now)) (take at.end word.now) 0 all_forms)) × (result.kept ≤ list_limit + 1)
+        × (result.visits ≡ total (λ form. total (prefix_visits 1 (replies sheet.now)) (prefix_remainder (take at.end word.now) form)) prefix_forms) }
 {
     let stem = at.end;
     let mut f = n;
@@ -224,7 +217,7 @@ fn first_rows(
         k += 1;
         if begins(word, forms, form_cuts, 0, stem, first) {
             let r = first_row(
-                word, sheet, starts, texts, cuts, forms, form_cuts, at, first, surface, f, out,
+                word, sheet, texts, cuts, forms, form_cuts, at, first, surface, f, out,
             );
             f = r.kept;
             v += r.visits;
@@ -236,8 +229,7 @@ fn first_rows(
 // The readings with this stem; whether the stem is a supported progressive form, which is never stripped, is known already.
 pub(crate) fn with_stem(
     word: &[u8],
-    sheet: &[u8],
-    starts: &[Start],
+    sheet: &Lexicon<'_>,
     texts: &[u8],
     cuts: &[u16],
     forms: &[u8],
@@ -248,16 +240,15 @@ pub(crate) fn with_stem(
     n: usize,
     out: &mut [u8],
 ) -> Tally
-    requires { Lent word.now sheet.now starts.now texts.now cuts.now forms.now form_cuts.now
-        × (at.end ≤ length word.now) × (surface ≤ 192) × (at.chain.count ≤ most_strips) × (progressive ≡ is_progressive (reply sheet.now) (take at.end word.now)) × HasRoom out.old n }
-    ensures { (kept_of out.new result.kept ≡ plus_all word.now (kept_of out.old n) (stem_walk (reply sheet.now) surface at.chain (take at.end word.now))) × (result.kept ≤ list_limit + 1)
-        × (result.visits ≡ prefix_visits 2 (reply sheet.now) (take at.end word.now)) }
+    requires { Lent word.now texts.now cuts.now forms.now form_cuts.now
+        × (at.end ≤ length word.now) × (surface ≤ 192) × (at.chain.count ≤ most_strips) × (progressive ≡ is_progressive (replies sheet.now) (take at.end word.now)) × HasRoom out.old n }
+    ensures { (kept_of out.new result.kept ≡ plus_all word.now (kept_of out.old n) (stem_walk (replies sheet.now) surface at.chain (take at.end word.now))) × (result.kept ≤ list_limit + 1)
+        × (result.visits ≡ prefix_visits 2 (replies sheet.now) (take at.end word.now)) }
 {
     let stem = at.end;
     let f = with_root(
         word,
         sheet,
-        starts,
         texts,
         cuts,
         at,
@@ -278,7 +269,7 @@ pub(crate) fn with_stem(
         return Tally { kept: f, visits: 1 };
     }
     let more = first_rows(
-        word, sheet, starts, texts, cuts, forms, form_cuts, at, surface, f, out,
+        word, sheet, texts, cuts, forms, form_cuts, at, surface, f, out,
     );
     Tally {
         kept: more.kept,

@@ -1,7 +1,7 @@
 // A reading for a stem and a root, where the root is supported.
 ghost use Rattle.std.specs.Prelude.{◌≡◌, ◌+◌, ◌-◌, ◌≤◌, length, take, drop};
 ghost use Rattle.tables.specs.Tables.{Laid, affixes};
-ghost use Rattle.sheet.specs.Replies.{Indexed, reply};
+ghost use Rattle.lookup.specs.Lexicons.{replies};
 ghost use Rattle.progressive.specs.Progressive.{is_progressive};
 ghost use Rattle.ranking.specs.Lists.{list_limit, plus_all};
 ghost use Rattle.ranking.specs.Kept.{kept_of, HasRoom};
@@ -9,7 +9,7 @@ ghost use Rattle.paths.specs.Chains.{most_strips, most_prefixes};
 ghost use Rattle.analysis.specs.Places.{root_found};
 
 use crate::support::{Support, is_supported, score, support_of};
-use lookup::starts::Start;
+use lookup::lexicon::Lexicon;
 use paths::{Piece, Prefixes};
 use ranking::Reading;
 use ranking::kept::store;
@@ -18,8 +18,7 @@ use ranking::kept::store;
 // begins at byte `root`. Each score adds `surface`, whatever number that is.
 pub(crate) fn with_root(
     word: &[u8],
-    sheet: &[u8],
-    starts: &[Start],
+    sheet: &Lexicon<'_>,
     texts: &[u8],
     cuts: &[u16],
     at: Piece,
@@ -30,15 +29,15 @@ pub(crate) fn with_root(
     n: usize,
     out: &mut [u8],
 ) -> usize
-    requires { Indexed sheet.now starts.now × Laid affixes texts.now cuts.now
+    requires { Laid affixes texts.now cuts.now
         × (root ≤ at.end) × (at.end ≤ length word.now) × (length word.now ≤ 192) × (surface ≤ 192) × (prefixes.count ≤ most_prefixes) × (at.chain.count ≤ most_strips)
-        × (progressive ≡ is_progressive (reply sheet.now) (take (at.end - root) (drop root word.now))) × HasRoom out.old n }
+        × (progressive ≡ is_progressive (replies sheet.now) (take (at.end - root) (drop root word.now))) × HasRoom out.old n }
     ensures { (kept_of out.new result ≡ plus_all word.now (kept_of out.old n)
-        (root_found (reply sheet.now) surface at.chain word.now at.end root prefixes)) × (result ≤ list_limit + 1) }
+        (root_found (replies sheet.now) surface at.chain word.now at.end root prefixes)) × (result ≤ list_limit + 1) }
 {
     let stem = at.end;
     let piece = &word[root..stem];
-    let s = support_of(sheet, starts, texts, cuts, piece, progressive);
+    let s = support_of(sheet, texts, cuts, piece, progressive);
     if !is_supported(s, piece.len()) {
         return n;
     }

@@ -2,7 +2,7 @@
 ghost use Rattle.std.specs.Prelude.{◌≡◌, ◌+◌, ◌-◌, ◌*◌, ◌≤◌, ◌<◌, [], length, take, get_or};
 ghost use Rattle.runs.specs.Runs.{ends_in};
 ghost use Rattle.tables.specs.Tables.{Laid, affixes};
-ghost use Rattle.sheet.specs.Replies.{Indexed, reply};
+ghost use Rattle.lookup.specs.Lexicons.{replies};
 ghost use Rattle.ranking.specs.Lists.{list_limit, plus_all};
 ghost use Rattle.ranking.specs.Kept.{kept_of, HasRoom};
 ghost use Rattle.paths.specs.Chains.{all_rows, most_strips, rows_after};
@@ -12,8 +12,8 @@ ghost use Rattle.paths.specs.Weighed.{times_after, entries_at, row_weighed, weig
 ghost use Rattle.analysis.specs.Places.{Lent};
 
 use crate::prefixes::with_stem;
-use lookup::answers::{SheetKind, kind_of};
-use lookup::starts::Start;
+use lookup::answers::SheetKind;
+use lookup::lexicon::Lexicon;
 use paths::{Chain, Piece, STRIPS, Tally};
 use progressive::find::has_supported_progressive_form;
 use ranking::{AffixKind, Segment};
@@ -82,12 +82,12 @@ fn counted(entries: u8, each: usize) -> usize
 }
 
 // The kind of a row: that of a kind line of the sheet, else that of its group.
-fn kind_at(sheet: &[u8], starts: &[Start], texts: &[u8], cuts: &[u16], k: u8) -> AffixKind
-    requires { Indexed sheet.now starts.now × Laid affixes texts.now cuts.now × (k < all_rows) }
-    ensures { result ≡ kind_of (reply sheet.now) k }
+fn kind_at(sheet: &Lexicon<'_>, texts: &[u8], cuts: &[u16], k: u8) -> AffixKind
+    requires { Laid affixes texts.now cuts.now × (k < all_rows) }
+    ensures { result ≡ kind_of (replies sheet.now) k }
 {
     let i = k as usize;
-    let listed = kind_of(sheet, starts, row(texts, cuts, i));
+    let listed = sheet.kind_of(row(texts, cuts, i));
     match listed {
         SheetKind::Unlisted => group_kind(k),
         SheetKind::Post => AffixKind::Postposition,
@@ -124,8 +124,7 @@ fn ends(word: &[u8], texts: &[u8], cuts: &[u16], end: usize, k: u8) -> bool
 #[cycle(below_visit)]
 pub(crate) fn visit(
     word: &[u8],
-    sheet: &[u8],
-    starts: &[Start],
+    sheet: &Lexicon<'_>,
     texts: &[u8],
     cuts: &[u16],
     forms: &[u8],
@@ -135,21 +134,20 @@ pub(crate) fn visit(
     n: usize,
     out: &mut [u8],
 ) -> Tally
-    requires { Lent word.now sheet.now starts.now texts.now cuts.now forms.now form_cuts.now
+    requires { Lent word.now texts.now cuts.now forms.now form_cuts.now
         × (at.end ≤ length word.now) × (surface ≤ 192) × (at.chain.count ≤ most_strips) × (at.rows ≤ all_rows) × HasRoom out.old n × (at.times ≤ 2) }
     ensures { (kept_of out.new result.kept ≡ plus_all word.now (kept_of out.old n)
-        (piece_walk (most_strips - at.chain.count) (reply sheet.now) surface at.chain at.rows (take at.end word.now))) × (result.kept ≤ list_limit + 1)
-        × (result.visits ≡ weighed (most_strips - at.chain.count) (reply sheet.now) at.rows at.times (take at.end word.now)) }
+        (piece_walk (most_strips - at.chain.count) (replies sheet.now) surface at.chain at.rows (take at.end word.now))) × (result.kept ≤ list_limit + 1)
+        × (result.visits ≡ weighed (most_strips - at.chain.count) (replies sheet.now) at.rows at.times (take at.end word.now)) }
 {
     let end = at.end;
     let chain = at.chain;
     let rows = at.rows;
     let times = at.times;
-    let progressive = has_supported_progressive_form(sheet, starts, &word[..end]);
+    let progressive = has_supported_progressive_form(sheet, &word[..end]);
     let stem = with_stem(
         word,
         sheet,
-        starts,
         texts,
         cuts,
         forms,
@@ -176,7 +174,7 @@ pub(crate) fn visit(
         k += 1;
         if ends(word, texts, cuts, end, label) {
             let r = below(
-                word, sheet, starts, texts, cuts, forms, form_cuts, at, label, surface, f, out,
+                word, sheet, texts, cuts, forms, form_cuts, at, label, surface, f, out,
             );
             f = r.kept;
             v += r.visits;
@@ -189,8 +187,7 @@ pub(crate) fn visit(
 #[cycle(below_visit)]
 fn below(
     word: &[u8],
-    sheet: &[u8],
-    starts: &[Start],
+    sheet: &Lexicon<'_>,
     texts: &[u8],
     cuts: &[u16],
     forms: &[u8],
@@ -201,23 +198,22 @@ fn below(
     n: usize,
     out: &mut [u8],
 ) -> Tally
-    requires { Lent word.now sheet.now starts.now texts.now cuts.now forms.now form_cuts.now
+    requires { Lent word.now texts.now cuts.now forms.now form_cuts.now
         × (at.end ≤ length word.now) × (surface ≤ 192) × (at.chain.count < most_strips) × (k < all_rows) × HasRoom out.old n × (at.times ≤ 2) }
     ensures { (kept_of out.new result.kept ≡ plus_all word.now (kept_of out.old n)
-        (row_walk (piece_walk (3 - at.chain.count) (reply sheet.now) surface) (reply sheet.now) at.chain (take at.end word.now) k)) × (result.kept ≤ list_limit + 1)
-        × (result.visits ≡ row_weighed (weighed (3 - at.chain.count) (reply sheet.now)) at.times (take at.end word.now) k) }
+        (row_walk (piece_walk (3 - at.chain.count) (replies sheet.now) surface) (replies sheet.now) at.chain (take at.end word.now) k)) × (result.kept ≤ list_limit + 1)
+        × (result.visits ≡ row_weighed (weighed (3 - at.chain.count) (replies sheet.now)) at.times (take at.end word.now) k) }
 {
     let end = at.end;
     let chain = at.chain;
     let i = k as usize;
     let rests = suffix_rests(&word[..end], row(texts, cuts, i));
-    if rests.count == 0 {
+    let Some(plain) = rests.plain else {
         return Tally { kept: n, visits: 0 };
-    }
-    let kind = kind_at(sheet, starts, texts, cuts, k);
+    };
+    let kind = kind_at(sheet, texts, cuts, k);
     let rows = rows_after(k);
     let times = times_after(at.times, k);
-    let plain = rests.plain;
     let next = pushed(
         chain,
         Segment {
@@ -229,7 +225,6 @@ fn below(
     let f = visit(
         word,
         sheet,
-        starts,
         texts,
         cuts,
         forms,
@@ -244,10 +239,9 @@ fn below(
         n,
         out,
     );
-    if rests.count == 1 {
+    let Some(shared) = rests.shared else {
         return f;
-    }
-    let shared = rests.shared;
+    };
     let other = pushed(
         chain,
         Segment {
@@ -259,7 +253,6 @@ fn below(
     let g = visit(
         word,
         sheet,
-        starts,
         texts,
         cuts,
         forms,

@@ -1,16 +1,15 @@
 // Which roots are supported, and how a reading scores.
 ghost use Rattle.std.specs.Prelude.{◌≡◌, ◌++◌, ◌≤◌};
 ghost use Rattle.tables.specs.Tables.{Laid, affixes};
-ghost use Rattle.sheet.specs.Replies.{Indexed, reply};
+ghost use Rattle.lookup.specs.Lexicons.{replies};
 ghost use Rattle.lookup.specs.Begins.{Begun};
 ghost use Rattle.progressive.specs.Progressive.{is_progressive};
 ghost use Rattle.paths.specs.Support.{is_known, has_sibling, points};
 ghost use Rattle.paths.specs.Chains.{most_strips, most_prefixes};
 ghost use Rattle.analysis.specs.Supports.{is_alone, support_of, score_from, supports};
 
-use lookup::answers::letters_in;
-use lookup::begins::{Range, range_of};
-use lookup::starts::Start;
+use lookup::begins::Range;
+use lookup::lexicon::Lexicon;
 use sheet::letters::Letters;
 use tables::row;
 
@@ -24,11 +23,11 @@ pub struct Support {
 }
 
 // Whether the sheet knows the name that p and then q make, by w or by h. The lines whose names begin with p are known.
-pub(crate) fn is_known(sheet: &[u8], starts: &[Start], range: Range, p: &[u8], q: &[u8]) -> bool
-    requires { Indexed sheet.now starts.now × Begun sheet.now starts.now 0x77 p.now range }
-    ensures { result ≡ is_known (reply sheet.now) (p.now ++ q.now) }
+pub(crate) fn is_known(sheet: &Lexicon<'_>, range: Range, p: &[u8], q: &[u8]) -> bool
+    requires { Begun sheet.now.bytes.now sheet.now.starts.now 0x77 p.now range }
+    ensures { result ≡ is_known (replies sheet.now) (p.now ++ q.now) }
 {
-    let letters = letters_in(sheet, starts, range, p, q);
+    let letters = sheet.letters_in(range, p, q);
     if letters.word {
         return true;
     }
@@ -37,20 +36,19 @@ pub(crate) fn is_known(sheet: &[u8], starts: &[Start], range: Range, p: &[u8], q
 
 // Whether the sheet knows the piece with one of the 25 texts appended. The lines whose names begin with the piece are known.
 pub(crate) fn has_sibling(
-    sheet: &[u8],
-    starts: &[Start],
+    sheet: &Lexicon<'_>,
     range: Range,
     texts: &[u8],
     cuts: &[u16],
     piece: &[u8],
 ) -> bool
-    requires { Indexed sheet.now starts.now × Begun sheet.now starts.now 0x77 piece.now range × Laid affixes texts.now cuts.now }
-    ensures { result ≡ has_sibling (reply sheet.now) piece.now }
+    requires { Begun sheet.now.bytes.now sheet.now.starts.now 0x77 piece.now range × Laid affixes texts.now cuts.now }
+    ensures { result ≡ has_sibling (replies sheet.now) piece.now }
 {
     let mut k: usize = 0;
     while k < 25 {
         let text = row(texts, cuts, k);
-        if is_known(sheet, starts, range, piece, text) {
+        if is_known(sheet, range, piece, text) {
             return true;
         }
         k += 1;
@@ -116,17 +114,16 @@ fn is_alone(range: Range, letters: Letters) -> bool
 // What the sheet says of a root; whether it is a supported progressive form is known already. Where no name begins with the root,
 // or only its own, one search settles all 26 questions.
 pub(crate) fn support_of(
-    sheet: &[u8],
-    starts: &[Start],
+    sheet: &Lexicon<'_>,
     texts: &[u8],
     cuts: &[u16],
     root: &[u8],
     progressive: bool,
 ) -> Support
-    requires { Indexed sheet.now starts.now × Laid affixes texts.now cuts.now × (progressive ≡ is_progressive (reply sheet.now) root.now) }
-    ensures { result ≡ support_of (reply sheet.now) root.now }
+    requires { Laid affixes texts.now cuts.now × (progressive ≡ is_progressive (replies sheet.now) root.now) }
+    ensures { result ≡ support_of (replies sheet.now) root.now }
 {
-    let range = range_of(sheet, starts, b'w', root);
+    let range = sheet.range_of(b'w', root);
     if range.hi <= range.lo {
         return Support {
             word: false,
@@ -135,7 +132,7 @@ pub(crate) fn support_of(
             progressive,
         };
     }
-    let letters = letters_in(sheet, starts, range, root, b"");
+    let letters = sheet.letters_in(range, root, b"");
     if is_alone(range, letters) {
         return Support {
             word: letters.word,
@@ -144,7 +141,7 @@ pub(crate) fn support_of(
             progressive,
         };
     }
-    let sibling = has_sibling(sheet, starts, range, texts, cuts, root);
+    let sibling = has_sibling(sheet, range, texts, cuts, root);
     Support {
         word: letters.word,
         head: letters.head,

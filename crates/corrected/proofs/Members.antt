@@ -8,7 +8,7 @@ use mathlib.Core.List.Memᴰ
 use mathlib.Core.List.{List, [], ◌∷◌, ◌++◌, Memᴰ}
 use lib.ListN.{length, length-append}
 use Rattle.runs.specs.Runs.{pick, same_text, cmp, is_less}
-use Rattle.runs.specs.declared.Order.TheVariants.{Less, Equal}
+use Rattle.std.specs.declared.cmp.Ordering.TheVariants.{Less, Equal}
 use Rattle.runs.proofs.Ordered.{cmp_trans, cmp_refl, same_refl, same_true}
 use Rattle.sheet.specs.Forms.{Entry, written, key}
 use Rattle.sheet.specs.Lines.{sheet_text}

@@ -1,5 +1,6 @@
 -- Request (c) as theorems: which lines the outcome has, that it is accepted and no other sheet has these lines, what it replies; a line put and
 -- withdrawn again; a line put twice; what stands behind the new length; freed length; the order of the numbers. Assumes nothing.
+use Rattle.std.specs.Prelude.{Ok}
 use Prim.Native.Nat.{ℕ, ◌+◌, ◌≤◌}
 use native.Mathlib.Omega.{arith}
 use mathlib.Core.Path.{◌≡◌, refl, sym, ap, subst, ◌∙◌}
@@ -13,7 +14,7 @@ use Rattle.sheet.specs.Limits.{sheet_limit}
 use Rattle.sheet.specs.Forms.{Entry, entry_of, key, key_of}
 use Rattle.sheet.specs.Lines.{lines_of, sheet_text, sheet_check}
 use Rattle.sheet.specs.Replies.{unknown, told, reply_in, reply, Alike}
-use Rattle.sheet.specs.declared.check.SheetCheck.TheVariants as sheets
+use Rattle.sheet.specs.declared.check.SheetFault.TheVariants as sheets
 use Rattle.sheet.proofs.Accepted.{accepted-short}
 use Rattle.sheet.proofs.Texts.{Good, Rises, form_good, accepted_rises, accepted-text, lines-back, text-accepted}
 use Rattle.corrected.specs.Sets.{is_single, without, having, placed, in_order, put_text, withdrawn_text}
@@ -22,7 +23,7 @@ use Rattle.corrected.proofs.Singles.{single_form, single_written}
 use Rattle.corrected.proofs.Members.{from-without, to_without, reply_others, from-placed, to_placed, reply_beside, reply-placed, without-placed, placed_long, without_long, unknown_apart, apart_without, same_members, one_line, apart_differ}
 
 -- an accepted sheet and a single form
-module _ (s line : List ℕ) (a : sheet_check s ≡ sheets.Accepted) (l : is_single line ≡ true) where
+module _ (s line : List ℕ) (a : sheet_check s ≡ Ok tt) (l : is_single line ≡ true) where
   abbrev given : Entry
   given = entry_of line
 
@@ -70,17 +71,17 @@ module _ (s line : List ℕ) (a : sheet_check s ≡ sheets.Accepted) (l : is_sin
       omega (arith, ap length t, without_long asked (lines_of s), ap length (accepted-text s a))
 
   -- the outcome is accepted
-  pub put-accepted : length (put_text s line) ≤ sheet_limit → sheet_check (put_text s line) ≡ sheets.Accepted
+  pub put-accepted : length (put_text s line) ≤ sheet_limit → sheet_check (put_text s line) ≡ Ok tt
   unfolding put_text
   put-accepted h = text-accepted (in_order (having given (lines_of s))) (put_rises (lines_of s) rises given good) h
 
-  pub withdrawn-accepted : sheet_check (withdrawn_text s line) ≡ sheets.Accepted
+  pub withdrawn-accepted : sheet_check (withdrawn_text s line) ≡ Ok tt
   unfolding withdrawn_text
   withdrawn-accepted =
       text-accepted (in_order (without asked (lines_of s))) (withdrawn_rises (lines_of s) rises asked) (omega (arith, withdrawn-length, accepted-short s a))
 
   -- no other accepted sheet has these lines
-  pub put_only : (t : List ℕ) → sheet_check t ≡ sheets.Accepted → ((x : Entry) → Memᴰ x (lines_of t) ↔ ((x ≡ given) ⊎ (Memᴰ x (lines_of s) × (key x ≡ asked → ⊥)))) → t ≡ put_text s line
+  pub put_only : (t : List ℕ) → sheet_check t ≡ Ok tt → ((x : Entry) → Memᴰ x (lines_of t) ↔ ((x ≡ given) ⊎ (Memᴰ x (lines_of s) × (key x ≡ asked → ⊥)))) → t ≡ put_text s line
   unfolding put_text
   put_only t b h =
       let r : Rises [] (placed given (without asked (lines_of s))) =
@@ -90,7 +91,7 @@ module _ (s line : List ℕ) (a : sheet_check s ≡ sheets.Accepted) (l : is_sin
       (λ x m. subst (Memᴰ x) put-lines ((put-set x).1 ((h x).0 m))) (λ x m. (h x).1 ((put-set x).0 (subst (Memᴰ x) (sym put-lines) m))) in
       sym (accepted-text t b) ∙ ap sheet_text (e ∙ sym (put_order (lines_of s) rises given))
 
-  pub withdrawn_only : (t : List ℕ) → sheet_check t ≡ sheets.Accepted → ((x : Entry) → Memᴰ x (lines_of t) ↔ (Memᴰ x (lines_of s) × (key x ≡ asked → ⊥))) → t ≡ withdrawn_text s line
+  pub withdrawn_only : (t : List ℕ) → sheet_check t ≡ Ok tt → ((x : Entry) → Memᴰ x (lines_of t) ↔ (Memᴰ x (lines_of s) × (key x ≡ asked → ⊥))) → t ≡ withdrawn_text s line
   unfolding withdrawn_text
   withdrawn_only t b h =
       let e : lines_of t ≡ without asked (lines_of s) =

@@ -1,4 +1,5 @@
 -- What the reader's step tells of a given line: whether it is a single form, and its key. The proofs of `place` cite these. Assumes nothing.
+use Rattle.std.specs.Prelude.{Err, Ok, Some}
 use Prim.Native.Nat.{ℕ, ◌+◌, ◌-◌, ◌≤◌, ◌<◌}
 use native.Mathlib.Omega.{arith}
 use mathlib.Core.Path.{◌≡◌, refl, sym, ap, subst, ◌∙◌}
@@ -15,16 +16,15 @@ use Rattle.sheet.specs.Forms.{entry_of, written, is_form, key, key_of}
 use Rattle.sheet.specs.Steps.{name_end, value_end}
 use Rattle.sheet.proofs.Forms.{written-length, form_shape, line-fits, behind}
 use Rattle.sheet.specs.Walks.{reached}
-use Rattle.sheet.specs.declared.walk.Before.TheVariants.{At}
 use Rattle.sheet.specs.declared.walk.Reached.{Reached}
 use Rattle.sheet.specs.declared.walk.Reached.TheVariants.{Form, NotAbove, NoForm, End}
 use Rattle.sheet.proofs.Walks.{key-told, at_first}
-use Rattle.sheet.specs.declared.inputs.Inputs.TheVariants.{Accepted, Refused}
 use Rattle.refusals.specs.declared.Refusal.TheVariants.{NoSingleForm}
 use Rattle.corrected.specs.Sets.{is_single}
 use Rattle.corrected.specs.Answers.{of_line}
 use Rattle.corrected.specs.Spans.{given_of}
-use Rattle.corrected.specs.declared.place.Given.TheVariants.{Single, Other}
+use Rattle.std.specs.Prelude.{Option, Some, None}
+use Rattle.corrected.specs.declared.place.Given.{Given}
 
 -- what the walk's step tells of a line that is the first of a sheet
 abbrev pub ToldFirst : List ℕ → Reached → Type 0
@@ -38,10 +38,14 @@ unfolding reached
 first-told line r q = subst (ToldFirst line) (sym q) (by (leb (length line) 0) (is_form line) refl refl)
   where
     by : (b c : Bool) → leb (length line) 0 ≡ b → is_form line ≡ c
-        → ToldFirst line (pick b End (pick c (Form (entry_of line).letter (name_end line 0) (value_end line 0) (record { at = value_end line 0 + 3; last = At 0 })) NoForm))
+        → ToldFirst line (pick b End (pick c (Form (entry_of line).letter (name_end line 0) (value_end line 0) (record { at = value_end line 0 + 3; last = Some 0 })) NoForm))
     by true c p r = leb-true _ _ p
     by false true p r = (r, refl, refl, refl, refl)
     by false false p r = r
+
+-- a given line by its letter and where its name ends
+abbrev pub given : ℕ → ℕ → Given
+given l m = record { letter = l; name_end = m }
 
 module _ (line : List ℕ) where
   -- the length of its form
@@ -76,42 +80,42 @@ module _ (line : List ℕ) where
       let n : same_text (written (entry_of line)) line ≡ true = ap (λ (x : List ℕ). same_text x line) (sym w) ∙ same_refl line in
       rw (f, n)
 
-  pub empty_given : length line ≤ 0 → Other ≡ given_of line
+  pub empty_given : length line ≤ 0 → None ≡ given_of line
   unfolding given_of
   empty_given h = by (is_form line) refl
     where
-      by : (b : Bool) → is_form line ≡ b → Other ≡ pick (is_single line) (Single (entry_of line).letter (3 + length (entry_of line).name)) Other
+      by : (b : Bool) → is_form line ≡ b → None ≡ pick (is_single line) (Some (given (entry_of line).letter (3 + length (entry_of line).name))) None
       by true f = absurd (omega (arith, line-fits line 0 f))
       by false f = rw (no_single f)
 
-  pub none-given : is_form line ≡ false → Other ≡ given_of line
+  pub none-given : is_form line ≡ false → None ≡ given_of line
   unfolding given_of
   none-given f = rw (no_single f)
 
-  pub more_given : is_form line ≡ true → (n : ℕ) → n ≡ value_end line 0 + 3 → n < length line → Other ≡ given_of line
+  pub more_given : is_form line ≡ true → (n : ℕ) → n ≡ value_end line 0 + 3 → n < length line → None ≡ given_of line
   unfolding given_of
   more_given f n e h = rw (longer f (omega arith))
 
-  pub single_given : is_form line ≡ true → (l m n : ℕ) → l ≡ (entry_of line).letter → m ≡ name_end line 0 → n ≡ value_end line 0 + 3 → length line ≤ n → Single l m ≡ given_of line
+  pub single_given : is_form line ≡ true → (l m n : ℕ) → l ≡ (entry_of line).letter → m ≡ name_end line 0 → n ≡ value_end line 0 + 3 → length line ≤ n → Some (given l m) ≡ given_of line
   unfolding given_of
   single_given f l m n p q e h = let w = whole f (omega arith) in rw (w, p, q)
 
   -- what is known of a line by what was given
-  pub other_told : Other ≡ given_of line → of_line line ≡ Refused NoSingleForm
+  pub other_told : None ≡ given_of line → of_line line ≡ Err NoSingleForm
   unfolding given_of
   other_told e = by (is_single line) e
     where
-      by : (b : Bool) → Other ≡ pick b (Single (entry_of line).letter (3 + length (entry_of line).name)) Other → pick b Accepted (Refused NoSingleForm) ≡ Refused NoSingleForm
+      by : (b : Bool) → None ≡ pick b (Some (given (entry_of line).letter (3 + length (entry_of line).name))) None → pick b (Ok (tt {0})) (Err NoSingleForm) ≡ Err NoSingleForm
       by true f = let z : ◌≡◌ {A = ℕ} 0 1 = cc in absurd (omega arith)
       by false f = refl
 
-  pub single_told : (l m : ℕ) → Single l m ≡ given_of line → (is_single line ≡ true) × (l ≡ (entry_of line).letter) × (m ≡ 3 + length (entry_of line).name)
+  pub single_told : (l m : ℕ) → Some (given l m) ≡ given_of line → (is_single line ≡ true) × (l ≡ (entry_of line).letter) × (m ≡ 3 + length (entry_of line).name)
   unfolding given_of
   single_told l m e = by (is_single line) e
     where
-      by : (b : Bool) → Single l m ≡ pick b (Single (entry_of line).letter (3 + length (entry_of line).name)) Other
+      by : (b : Bool) → Some (given l m) ≡ pick b (Some (given (entry_of line).letter (3 + length (entry_of line).name))) None
           → (b ≡ true) × (l ≡ (entry_of line).letter) × (m ≡ 3 + length (entry_of line).name)
-      by true f = (refl, cc, cc)
+      by true f = let g : given l m ≡ given (entry_of line).letter (3 + length (entry_of line).name) = cc in (refl, ap (λ (x : Given). x.letter) g, ap (λ (x : Given). x.name_end) g)
       by false f = let z : ◌≡◌ {A = ℕ} 0 1 = cc in absurd (omega arith)
 
   pub single_inside : (m : ℕ) → is_single line ≡ true → m ≡ 3 + length (entry_of line).name → m ≤ length line
@@ -120,5 +124,5 @@ module _ (line : List ℕ) where
   pub single_key : (l m : ℕ) → is_single line ≡ true → l ≡ (entry_of line).letter → m ≡ 3 + length (entry_of line).name → key_of l (take (m - 3) (drop 3 line)) ≡ key (entry_of line)
   single_key l m h p q = key-told line 0 (single_form h) l m p q
 
-  pub single_accepted : is_single line ≡ true → of_line line ≡ Accepted
+  pub single_accepted : is_single line ≡ true → of_line line ≡ Ok tt
   single_accepted h = rw h

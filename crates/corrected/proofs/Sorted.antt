@@ -5,8 +5,8 @@ use mathlib.Core.Path.{◌≡◌, refl, sym, ap, subst, ◌∙◌}
 use mathlib.Core.Bool.{Bool, true, false}
 use mathlib.Core.List.{List, [], ◌∷◌, ◌++◌, append_assoc}
 use Rattle.runs.specs.Runs.{pick, same_text, cmp, is_less}
-use Rattle.runs.specs.declared.Order.{Order}
-use Rattle.runs.specs.declared.Order.TheVariants.{Less, Equal, Greater}
+use Rattle.std.specs.declared.cmp.Ordering.{Ordering}
+use Rattle.std.specs.declared.cmp.Ordering.TheVariants.{Less, Equal, Greater}
 use Rattle.runs.proofs.Ordered.{cmp_trans, cmp_turned, cmp_equal, same_cmp, same_refl, is_equal, turned}
 use Rattle.sheet.specs.Forms.{Entry, written, key}
 use Rattle.sheet.specs.Lines.{sheet_text}
@@ -107,7 +107,7 @@ pub rises_placed : (e : Entry) → Good e → (last : List ℕ) (es : List Entry
 rises_placed e g last [] h a r = (g, h, tt)
 rises_placed e g last (f ∷ es) h a r = by (cmp (key e) (key f)) refl (rises_placed e g (key f) es)
   where
-    by : (o : Order) → cmp (key e) (key f) ≡ o → (cmp (key f) (key e) ≡ Less → Apart (key e) es → Rises (key f) es → Rises (key f) (placed e es))
+    by : (o : Ordering) → cmp (key e) (key f) ≡ o → (cmp (key f) (key e) ≡ Less → Apart (key e) es → Rises (key f) es → Rises (key f) (placed e es))
         → Rises last (pick (is_less o) (e ∷ f ∷ es) (f ∷ placed e es))
     by Less p rest = (g, h, (r.0, p, r.2))
     by Equal p rest =

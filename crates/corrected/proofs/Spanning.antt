@@ -1,5 +1,6 @@
 -- Where a line stands in an accepted sheet, from the number of lines below it: the bytes before, of and behind it. The proof of `span_of` cites
 -- these. Assumes nothing.
+use Rattle.std.specs.Prelude.{Ok}
 use Prim.Native.Nat.{ℕ, zero, suc, ◌+◌, ◌-◌, ◌≤◌, ◌<◌}
 use native.Mathlib.Omega.{arith}
 use mathlib.Core.Path.{◌≡◌, refl, sym, ap, subst, ◌∙◌}
@@ -8,14 +9,13 @@ use mathlib.Core.List.{List, [], ◌∷◌, ◌++◌, map, append-nil, append_as
 use lib.ListN.{length, take, drop, get_or, length-append, length-map, take-append-drop, drop_of_length-le}
 use lib.Seq.{take_at, drop_at, take_all}
 use Rattle.runs.specs.Runs.{pick, same_text, cmp}
-use Rattle.runs.specs.declared.Order.{Order}
-use Rattle.runs.specs.declared.Order.TheVariants.{Less, Equal, Greater}
+use Rattle.std.specs.declared.cmp.Ordering.{Ordering}
+use Rattle.std.specs.declared.cmp.Ordering.TheVariants.{Less, Equal, Greater}
 use Rattle.runs.proofs.Ordered.{Stand, stand, cmp_trans, cmp_turned, cmp_equal, same_cmp, is_equal, turned, and_then}
 use Rattle.sheet.specs.Forms.{Entry, written, key, key_of}
 use Rattle.sheet.specs.Keys.{headed}
 use Rattle.sheet.specs.Lines.{starts_from, starts_of, line_at, lines_of, sheet_text, sheet_check}
 use Rattle.sheet.specs.Replies.{unknown, told, reply_in, Indexed}
-use Rattle.sheet.specs.declared.check.SheetCheck.TheVariants.{Accepted}
 use Rattle.sheet.proofs.Accepted.{GoesUp, accepted_up, up_above}
 use Rattle.sheet.proofs.Forms.{written-length}
 use Rattle.sheet.proofs.Spaced.{head-parts}
@@ -27,7 +27,7 @@ use Rattle.corrected.specs.Spans.{Spanned}
 use Rattle.corrected.proofs.Sorted.{Below, Above, rises_above, above_lower, placed-above, placed_below, without-below, without-above, reply-below, reply_apart, above_apart, rises_tail, withdrawn_order, put_order, text-both}
 
 -- the lines of an accepted sheet are those below the key q and the others, of which the first begins at byte n
-module _ (s q : List ℕ) (h : sheet_check s ≡ Accepted) (xs ys : List Entry) (e : lines_of s ≡ xs ++ ys) (n : ℕ) (l : length (sheet_text xs) ≡ n) (b : Below q xs) where
+module _ (s q : List ℕ) (h : sheet_check s ≡ Ok tt) (xs ys : List Entry) (e : lines_of s ≡ xs ++ ys) (n : ℕ) (l : length (sheet_text xs) ≡ n) (b : Below q xs) where
   whole : s ≡ sheet_text xs ++ sheet_text ys
   whole = sym (accepted-text s h) ∙ ap sheet_text e ∙ text-both xs ys
 
@@ -117,7 +117,7 @@ from-number s (at ∷ places) (suc i) h = from-number s places i (omega arith)
 
 -- a line that stands below all that begin with a key stands below the key, and one that does not, does not
 head_less : (n q : List ℕ) → headed n q ≡ Less → cmp n q ≡ Less
-head_less n q e = ap (cmp n) (sym (append-nil q)) ∙ head-parts n q [] ∙ ap (λ (o : Order). and_then o (cmp (drop (length q) n) [])) e
+head_less n q e = ap (cmp n) (sym (append-nil q)) ∙ head-parts n q [] ∙ ap (λ (o : Ordering). and_then o (cmp (drop (length q) n) [])) e
 
 never_less : (n : List ℕ) → cmp n [] ≡ Less → ⊥
 never_less [] e = let z : ◌≡◌ {A = ℕ} 0 1 = cc in omega arith
@@ -126,10 +126,10 @@ never_less (x ∷ n) e = let z : ◌≡◌ {A = ℕ} 0 1 = cc in omega arith
 less_head : (n q : List ℕ) → cmp n q ≡ Less → headed n q ≡ Less
 less_head n q e = go (headed n q) refl
   where
-    f : (o : Order) → headed n q ≡ o → and_then o (cmp (drop (length q) n) []) ≡ Less
-    f o p = sym (ap (cmp n) (sym (append-nil q)) ∙ head-parts n q [] ∙ ap (λ (y : Order). and_then y (cmp (drop (length q) n) [])) p) ∙ e
+    f : (o : Ordering) → headed n q ≡ o → and_then o (cmp (drop (length q) n) []) ≡ Less
+    f o p = sym (ap (cmp n) (sym (append-nil q)) ∙ head-parts n q [] ∙ ap (λ (y : Ordering). and_then y (cmp (drop (length q) n) [])) p) ∙ e
 
-    go : (o : Order) → headed n q ≡ o → headed n q ≡ Less
+    go : (o : Ordering) → headed n q ≡ o → headed n q ≡ Less
     go Less p = p
     go Equal p = absurd (never_less (drop (length q) n) (f Equal p))
     go Greater p = let y : Greater ≡ Less = f Greater p in let z : ◌≡◌ {A = ℕ} 0 1 = cc in absurd (omega arith)
@@ -170,7 +170,7 @@ module _ (s starts : List ℕ) (letter : ℕ) (name : List ℕ) (x : Indexed s s
       (ap length (ap sheet_text t ∙ accepted-text s x.accepted)) below (subst (Above q) (sym d) tt)
 
   -- or line number lo is the first that does not, and begins at byte `at`
-  module _ (h : r.lo < length starts) (at : ℕ) (p : at ≡ get_or starts r.lo 0) (o : Order) (c : o ≡ cmp (key (line_at s at)) q) where
+  module _ (h : r.lo < length starts) (at : ℕ) (p : at ≡ get_or starts r.lo 0) (o : Ordering) (c : o ≡ cmp (key (line_at s at)) q) where
     first : drop r.lo (lines_of s) ≡ line_at s at ∷ drop (suc r.lo) (lines_of s)
     first =
         ap (drop r.lo) lines ∙ from-number s starts r.lo h

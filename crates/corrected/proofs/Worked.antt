@@ -1,10 +1,10 @@
 -- Edits worked by hand: a line put before, between and in the place of others, a line withdrawn, each refusal, and every byte of the buffer.
 -- Assumes nothing.
+use Rattle.std.specs.Prelude.{Err, Ok}
 use Prim.Native.Nat.{ℕ}
 use mathlib.Core.Path.{◌≡◌, refl}
 use mathlib.Core.List.{List, [], ◌∷◌, ◌++◌, map}
 use Rattle.refusals.specs.declared.Refusal.TheVariants.{SheetTooLong, SheetNoForm, SheetNotAbove, NoSingleForm, NothingToWithdraw, NoRoom}
-use Rattle.refusals.specs.declared.Written.TheVariants.{Wrote, Refused}
 use Rattle.text.specs.Utf8.{within, utf8_char, opened, after, run, is_utf8}
 use Rattle.text.specs.Names.{forbidden, name_run, holds_forbidden}
 use Rattle.sheet.specs.Letters.{tag_of, letters_of, well_kept, is_letters}
@@ -36,7 +36,7 @@ buffer = w 0x61 ++ (w 0x63 ++ (1 ∷ nine))
 
 -- b before c; a with another value, as long; a with one that is longer; a as it is; a line that has no room
 pub put-worked :
-    map (put_of buffer 20) (w 0x62 ∷ h 0x61 ∷ wh 0x61 ∷ w 0x61 ∷ wh 0x62 ∷ []) ≡ Wrote 30 ∷ Wrote 20 ∷ Wrote 21 ∷ Wrote 20 ∷ Refused NoRoom ∷ []
+    map (put_of buffer 20) (w 0x62 ∷ h 0x61 ∷ wh 0x61 ∷ w 0x61 ∷ wh 0x62 ∷ []) ≡ Ok 30 ∷ Ok 20 ∷ Ok 21 ∷ Ok 20 ∷ Err NoRoom ∷ []
 unfolding within utf8_char opened after run is_utf8 forbidden name_run holds_forbidden tag_of letters_of well_kept is_letters entry_of written is_name is_kind is_meant
     is_form judged sheet_check is_single put_text opening_of put_of
 put-worked = refl
@@ -49,7 +49,7 @@ unfolding within utf8_char opened after run is_utf8 forbidden name_run holds_for
 put-leaves = refl
 
 -- a by another value; c; and b, which is not there
-pub withdraw_worked : map (withdraw_of buffer 20) (h 0x61 ∷ w 0x63 ∷ w 0x62 ∷ []) ≡ Wrote 10 ∷ Wrote 10 ∷ Refused NothingToWithdraw ∷ []
+pub withdraw_worked : map (withdraw_of buffer 20) (h 0x61 ∷ w 0x63 ∷ w 0x62 ∷ []) ≡ Ok 10 ∷ Ok 10 ∷ Err NothingToWithdraw ∷ []
 unfolding within utf8_char opened after run is_utf8 forbidden name_run holds_forbidden tag_of letters_of well_kept is_letters entry_of written is_name is_kind is_meant
     is_form judged sheet_check is_single withdrawn_text opening_of withdraw_of
 withdraw_worked = refl
@@ -63,14 +63,14 @@ withdraw_leaves = refl
 -- no line; a line without its 0A; two lines; a form and a byte behind it
 pub no-single-worked :
     map (put_of buffer 20) ([] ∷ (0x28 ∷ 0x77 ∷ 0x20 ∷ 0x62 ∷ 0x20 ∷ 0x28 ∷ 0x77 ∷ 0x29 ∷ 0x29 ∷ []) ∷ (w 0x62 ++ w 0x64) ∷ (w 0x62 ++ (0x0A ∷ [])) ∷ [])
-    ≡ Refused NoSingleForm ∷ Refused NoSingleForm ∷ Refused NoSingleForm ∷ Refused NoSingleForm ∷ []
+    ≡ Err NoSingleForm ∷ Err NoSingleForm ∷ Err NoSingleForm ∷ Err NoSingleForm ∷ []
 unfolding within utf8_char opened after run is_utf8 forbidden name_run holds_forbidden tag_of letters_of well_kept is_letters entry_of written is_name is_kind is_meant
     is_form judged sheet_check is_single put_text opening_of put_of
 no-single-worked = refl
 
 -- a used length a byte beyond the buffer; a sheet cut short; lines out of order; each before what is said of the line
 pub opening-worked :
-    (put_of buffer 31 [] ≡ Refused SheetTooLong) × (put_of buffer 19 [] ≡ Refused (SheetNoForm 10)) × (withdraw_of (w 0x63 ++ w 0x61) 20 [] ≡ Refused (SheetNotAbove 10))
+    (put_of buffer 31 [] ≡ Err SheetTooLong) × (put_of buffer 19 [] ≡ Err (SheetNoForm 10)) × (withdraw_of (w 0x63 ++ w 0x61) 20 [] ≡ Err (SheetNotAbove 10))
 unfolding within utf8_char opened after run is_utf8 forbidden name_run holds_forbidden tag_of letters_of well_kept is_letters entry_of written is_name is_kind is_meant
     is_form judged sheet_check is_single put_text withdrawn_text opening_of put_of withdraw_of
 opening-worked = (refl, refl, refl)

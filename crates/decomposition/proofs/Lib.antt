@@ -6,3 +6,4 @@ pub mod Few
 pub mod Worked
 pub mod Reached
 pub mod Meant
+pub mod Refused

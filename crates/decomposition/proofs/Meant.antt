@@ -1,5 +1,6 @@
 -- The place of a root says the text that is meant: every remainder is a front part of the piece, so that its length is enough.
 -- Assumes nothing.
+use Rattle.std.specs.Prelude.{Option, Some, None, IfSome}
 use mathlib.Core.Path.{◌≡◌, refl, sym, ap, subst, ◌∙◌}
 use mathlib.Core.Bool.{Bool, true, false}
 use mathlib.Core.List.{List, [], ◌∷◌, ◌++◌}
@@ -7,14 +8,13 @@ use Prim.Native.Nat.{ℕ, suc, ◌+◌, ◌-◌, ◌≤◌}
 use native.Mathlib.Omega.{arith}
 use lib.ListN.{length, take, drop, length-drop}
 use lib.Seq.{length-take-le, take-take, take_all}
-use lib.Dec.{leb, ltb}
+use lib.Dec.{leb}
 use borrow.Author.Tests.{le-leb}
 use Rattle.runs.specs.Runs.{pick}
 use Rattle.tables.specs.Rows.{prefix_forms, suffixes}
 use Rattle.sheet.specs.Replies.{Ask}
-use Rattle.strips.specs.Suffix.{fronts}
+use Rattle.strips.specs.Suffix.{front, fronts}
 use Rattle.strips.specs.declared.suffix.Rests.{Rests}
-use Rattle.strips.specs.declared.prefix.Rest.TheVariants.{From}
 use Rattle.strips.proofs.Remainders.{Inside}
 use Rattle.ranking.specs.Parts.{part}
 use Rattle.decomposition.specs.declared.fronts.Front.{Front}
@@ -45,13 +45,13 @@ front-front whole piece x f g = (
 
 -- the remainders are
 rests_fronts : (piece : List ℕ) (r : Rests) → Inside piece r → AllFronts piece (fronts piece r)
-rests_fronts piece r i = go (ltb 0 r.count) (ltb 1 r.count)
+rests_fronts piece r i = go r.plain r.shared i.plain_in i.shared_in
   where
-    go : (a b : Bool) → AllFronts piece (pick a (take r.plain piece ∷ []) [] ++ pick b (take r.shared piece ∷ []) [])
-    go true true = (front-take piece r.plain i.plain_in, (front-take piece r.shared i.shared_in, tt))
-    go true false = (front-take piece r.plain i.plain_in, tt)
-    go false true = (front-take piece r.shared i.shared_in, tt)
-    go false false = tt
+    go : (a b : Option ℕ) → IfSome a (λ n. n ≤ length piece) → IfSome b (λ n. n ≤ length piece) → AllFronts piece (front piece a ++ front piece b)
+    go (Some n) (Some m) p q = (front-take piece n p, (front-take piece m q, tt))
+    go (Some n) None p q = (front-take piece n p, tt)
+    go None (Some m) p q = (front-take piece m q, tt)
+    go None None p q = tt
 
 pub left-fronts : (ask : Ask) (piece suffix : List ℕ) → AllFronts piece (left_of ask piece suffix)
 left-fronts ask piece suffix = subst (AllFronts piece) (open_say ask piece suffix) (rests_fronts piece (open_rests ask piece suffix) (open_inside ask piece suffix))
@@ -77,7 +77,7 @@ rows-front ask least k (suffix ∷ rows) whole s f =
     (first-fronts ask least s.piece (left_of ask s.piece suffix) (left-fronts ask s.piece suffix)))
 
 -- a front lies inside the word
-word_rest_is : (ask : Ask) (w form : List ℕ) → leaves_word ask w form ≡ true → From (length form) ≡ word_rest ask w form
+word_rest_is : (ask : Ask) (w form : List ℕ) → leaves_word ask w form ≡ true → Some (length form) ≡ word_rest ask w form
 unfolding word_rest
 word_rest_is ask w form e = rw e
 

@@ -1,5 +1,6 @@
 -- Laws of the way through the suffix rows: labels in an array, one row more, all rows. The proofs of `strip_row`, `strip_rows` and
 -- `decomposed` cite these. Assumes nothing.
+use Rattle.std.specs.Prelude.{None, Some}
 use mathlib.Core.Path.{◌≡◌, refl, sym, ap, ◌∙◌}
 use mathlib.Core.List.{List, [], ◌∷◌, ◌++◌}
 use Prim.Native.Nat.{ℕ, zero, suc, ◌+◌, ◌-◌, ◌<◌, ◌≤◌}
@@ -10,7 +11,6 @@ use lib.ListN.{length, take, drop, get_or, set, drop_of_length-le}
 use lib.Seq.{drop-cons, take-take, take_all, take-suc-set, length-take-le}
 use Rattle.sheet.specs.Replies.{Ask}
 use Rattle.decomposition.specs.declared.suffixes.Stripped.{Stripped}
-use Rattle.decomposition.specs.declared.suffixes.Left.TheVariants.{Nothing, Whole}
 use Rattle.tables.specs.Rows.{prefix_forms, suffixes}
 use Rattle.decomposition.specs.declared.fronts.Front.{Front}
 use Rattle.decomposition.specs.declared.Parts.{Parts}
@@ -59,7 +59,7 @@ abbrev pub rests_at : Ask → ℕ → List ℕ → List ℕ → Stripped → Lis
 rests_at ask least whole suffix s = first_taken ask least (left_of ask (take s.len whole) suffix)
 
 module _ (ask : Ask) (least k : ℕ) (whole suffix : List ℕ) (s : Stripped) (held : Held whole k s) (b : k < 24) where
-  pub row-none : FirstLeft (take s.len whole) Nothing (rests_at ask least whole suffix s)
+  pub row-none : FirstLeft (take s.len whole) None (rests_at ask least whole suffix s)
       → (stage_of whole s ≡ strip_row ask least k suffix (stage_of whole s)) × Held whole (k + 1) s
   unfolding strip_row
   row-none f = (
@@ -67,7 +67,7 @@ module _ (ask : Ask) (least k : ℕ) (whole suffix : List ℕ) (s : Stripped) (h
     record { inside = held.inside; few = omega (arith, held.few); zeros = held.zeros },
   )
 
-  pub row-some : (n : ℕ) (r : Stripped) → FirstLeft (take s.len whole) (Whole n) (rests_at ask least whole suffix s)
+  pub row-some : (n : ℕ) (r : Stripped) → FirstLeft (take s.len whole) (Some n) (rests_at ask least whole suffix s)
       → r.len ≡ n → r.count ≡ s.count + 1 → r.labels ≡ set s.labels s.count (label_row k)
       → (stage_of whole r ≡ strip_row ask least k suffix (stage_of whole s)) × Held whole (k + 1) r
   unfolding strip_row

@@ -1,20 +1,21 @@
 -- Laws of the remainders under one suffix with the rule of pronouns, and of the first that decompose takes. The proofs of the
 -- functions of `suffixes` cite these. Assumes nothing.
+use Rattle.std.specs.Prelude.{Option, None, Some}
+use Rattle.std.specs.Option.{is_some}
 use mathlib.Core.Path.{◌≡◌, refl, sym, ap, ◌∙◌}
-use mathlib.Core.Bool.{Bool, true, false}
+use mathlib.Core.Bool.{Bool, true, false, ◌&&◌}
 use mathlib.Core.List.{List, [], ◌∷◌, ◌++◌, append-nil}
 use Prim.Native.Nat.{ℕ, ◌<◌, ◌≤◌}
 use native.Mathlib.Omega.{arith}
-use lib.ListN.{take}
-use lib.Dec.{ltb}
-use borrow.Author.Tests.{lt-ltb, le-leb, lt-leb}
+use lib.ListN.{length, take}
+use borrow.Author.Tests.{le-leb, lt-leb}
 use Rattle.runs.specs.Runs.{pick}
 use Rattle.text.specs.Characters.{chars}
 use Rattle.sheet.specs.Replies.{Ask, reply, letters_told, letters_for, letters_by}
 use Rattle.sheet.specs.declared.letters.Letters.{Letters}
 use Rattle.strips.specs.Suffix.{sheds, is_long, plain_length, shared_length, remainders, rests_of, fronts, keeps_pronoun}
 use Rattle.strips.specs.declared.suffix.Rests.{Rests}
-use Rattle.strips.proofs.Remainders.{Inside, rests_say, rests_inside}
+use Rattle.strips.proofs.Remainders.{Inside, rests_say, rests_inside, shared_with_plain}
 use Rattle.decomposition.specs.Strips.{is_word, is_kept, left_of, no_rests, open_rests, is_taken, first_taken}
 
 -- the letters of a name, as the code asks for them
@@ -28,19 +29,18 @@ word-told s name l e = ap (λ (x : Letters). x.word) (own_letters s name l e)
 
 -- Remainders with the rule of pronouns.
 
-none-counted : (piece suffix : List ℕ) → (rests_of piece suffix).count ≡ 0 → rests_of piece suffix ≡ no_rests
+pub none_if : (o : Option ℕ) → is_some o ≡ false → o ≡ None
+none_if None e = refl
+none_if (Some n) e = let z : ◌≡◌ {A = ℕ} 0 1 = cc in absurd (omega arith)
+
+none-counted : (piece suffix : List ℕ) → (rests_of piece suffix).plain ≡ None → rests_of piece suffix ≡ no_rests
 unfolding rests_of
 none-counted piece suffix e = go (sheds piece suffix) (is_long suffix) e
   where
     go : (a b : Bool)
-        → (pick a (pick b
-        (record { count = 2; plain = plain_length piece suffix; shared = shared_length piece suffix })
-        (record { count = 1; plain = plain_length piece suffix; shared = 0 })) no_rests).count ≡ 0
-        → pick a (pick b
-        (record { count = 2; plain = plain_length piece suffix; shared = shared_length piece suffix })
-        (record { count = 1; plain = plain_length piece suffix; shared = 0 })) no_rests ≡ no_rests
-    go true true e = absurd (omega arith)
-    go true false e = absurd (omega arith)
+        → pick a (Some (plain_length piece suffix)) None ≡ None
+        → ◌≡◌ {A = Rests} (record { plain = pick a (Some (plain_length piece suffix)) None; shared = pick (a && b) (Some (shared_length piece suffix)) None }) no_rests
+    go true b e = let z : ◌≡◌ {A = ℕ} 0 1 = cc in absurd (omega arith)
     go false b e = refl
 
 either : {A : Type 0} (b : Bool) (x : A) → pick b x x ≡ x
@@ -48,10 +48,10 @@ either true x = refl
 either false x = refl
 
 module _ (ask : Ask) (piece suffix : List ℕ) where
-  pub open_none : (r : Rests) → r ≡ rests_of piece suffix → r.count ≡ 0 → r ≡ open_rests ask piece suffix
+  pub open_none : (r : Rests) → r ≡ rests_of piece suffix → r.plain ≡ None → r ≡ open_rests ask piece suffix
   unfolding open_rests
   open_none r e n =
-      let z : rests_of piece suffix ≡ no_rests = none-counted piece suffix (ap (λ (x : Rests). x.count) (sym e) ∙ n) in
+      let z : rests_of piece suffix ≡ no_rests = none-counted piece suffix (ap (λ (x : Rests). x.plain) (sym e) ∙ n) in
       e ∙ z ∙ sym (either (is_kept ask piece suffix) no_rests) ∙ ap (λ (x : Rests). pick (is_kept ask piece suffix) no_rests x) (sym z)
 
   pub open_kept : is_kept ask piece suffix ≡ true → no_rests ≡ open_rests ask piece suffix
@@ -77,8 +77,17 @@ module _ (ask : Ask) (piece suffix : List ℕ) where
   open_inside = go (is_kept ask piece suffix)
     where
       go : (b : Bool) → Inside piece (pick b no_rests (rests_of piece suffix))
-      go true = record { few = omega arith; plain_in = omega arith; shared_in = omega arith }
+      go true = record { plain_in = tt; shared_in = tt }
       go false = rests_inside piece suffix
+
+  -- where there is no plain one, there is no shared one
+  pub open_alone : (open_rests ask piece suffix).plain ≡ None → (open_rests ask piece suffix).shared ≡ None
+  unfolding open_rests
+  open_alone = go (is_kept ask piece suffix)
+    where
+      go : (b : Bool) → (pick b no_rests (rests_of piece suffix)).plain ≡ None → (pick b no_rests (rests_of piece suffix)).shared ≡ None
+      go true e = refl
+      go false e = shared_with_plain piece suffix e
 
 -- whether the rule keeps the piece, by the letters of its own line
 pub kept : (s piece suffix : List ℕ) (l : Letters) (b : Bool) → l ≡ letters_for s (piece ++ []) → b ≡ keeps_pronoun l.pronoun l.spelled suffix
@@ -106,26 +115,28 @@ module _ (ask : Ask) (least : ℕ) (piece suffix : List ℕ) (r : Rests) (e : r 
   pub first-inside : Inside piece r
   first-inside = rw e (open_inside ask piece suffix)
 
-  pub first-none : r.count ≡ 0 → [] ≡ first_taken ask least (left_of ask piece suffix)
-  first-none n = rw n at said
+  pub plain-within : (n : ℕ) → r.plain ≡ Some n → n ≤ length piece
+  plain-within n p = rw p at first-inside.plain_in
 
-  pub first_plain : (r.count ≡ 0 → ⊥) → is_taken ask least (take r.plain piece) ≡ true → take r.plain piece ∷ [] ≡ first_taken ask least (left_of ask piece suffix)
-  first_plain n t =
-      let z : ltb 0 r.count ≡ true = lt-ltb 0 r.count (omega arith) in
-      rw (z, t) at said
+  pub shared-within : (n : ℕ) → r.shared ≡ Some n → n ≤ length piece
+  shared-within n p = rw p at first-inside.shared_in
 
-  pub first_one : r.count ≡ 1 → is_taken ask least (take r.plain piece) ≡ false → [] ≡ first_taken ask least (left_of ask piece suffix)
-  first_one n t = rw (n, t) at said
+  pub first-none : r.plain ≡ None → [] ≡ first_taken ask least (left_of ask piece suffix)
+  first-none n =
+      let m : r.shared ≡ None = rw e (open_alone ask piece suffix (ap (λ (x : Rests). x.plain) (sym e) ∙ n)) in
+      rw (n, m) at said
 
-  module _ (n : r.count ≡ 0 → ⊥) (m : r.count ≡ 1 → ⊥) (t : is_taken ask least (take r.plain piece) ≡ false) where
-    pub first-shared : is_taken ask least (take r.shared piece) ≡ true → take r.shared piece ∷ [] ≡ first_taken ask least (left_of ask piece suffix)
-    first-shared u =
-        let y : ltb 0 r.count ≡ true = lt-ltb 0 r.count (omega arith) in
-        let z : ltb 1 r.count ≡ true = lt-ltb 1 r.count (omega arith) in
-        rw (y, z, t, u) at said
+  module _ (n : ℕ) (p : r.plain ≡ Some n) where
+    pub first_plain : is_taken ask least (take n piece) ≡ true → take n piece ∷ [] ≡ first_taken ask least (left_of ask piece suffix)
+    first_plain t = rw (p, t) at said
 
-    pub first_neither : is_taken ask least (take r.shared piece) ≡ false → [] ≡ first_taken ask least (left_of ask piece suffix)
-    first_neither u =
-        let y : ltb 0 r.count ≡ true = lt-ltb 0 r.count (omega arith) in
-        let z : ltb 1 r.count ≡ true = lt-ltb 1 r.count (omega arith) in
-        rw (y, z, t, u) at said
+    module _ (t : is_taken ask least (take n piece) ≡ false) where
+      pub first_one : r.shared ≡ None → [] ≡ first_taken ask least (left_of ask piece suffix)
+      first_one q = rw (p, q, t) at said
+
+      module _ (m : ℕ) (q : r.shared ≡ Some m) where
+        pub first-shared : is_taken ask least (take m piece) ≡ true → take m piece ∷ [] ≡ first_taken ask least (left_of ask piece suffix)
+        first-shared u = rw (p, q, t, u) at said
+
+        pub first_neither : is_taken ask least (take m piece) ≡ false → [] ≡ first_taken ask least (left_of ask piece suffix)
+        first_neither u = rw (p, q, t, u) at said

@@ -1,4 +1,6 @@
 -- Decompositions worked by hand, as one list of inputs with their outcomes in texts; घरकोता is document 01's. Assumes nothing.
+use Rattle.std.specs.Prelude.{Ok, Err, Result}
+use Rattle.refusals.specs.declared.Refusal.{Refusal}
 use mathlib.Core.Path.{◌≡◌, refl}
 use mathlib.Core.List.{List, [], ◌∷◌, ◌++◌, map}
 use Prim.Native.Nat.{ℕ}
@@ -24,10 +26,8 @@ use Rattle.origin.specs.Decisions.{known_in, known_by, known_rest, known_under, 
 use Rattle.ranking.specs.Parts.{part}
 use Rattle.decomposition.specs.Strips.{is_word, label_row, least_root, is_kept, left_of, is_taken, strip_row, leaves_word}
 use Rattle.decomposition.specs.Parts.{behind_front, decomposed_of, morpheme_of}
-use Rattle.decomposition.specs.declared.entries.MorphemeAnswer.{MorphemeAnswer}
+use Rattle.decomposition.specs.declared.Morpheme.{Morpheme}
 use Rattle.decomposition.specs.Answers.{morpheme_answer}
-use Rattle.sheet.specs.declared.inputs.Inputs.{Inputs}
-use Rattle.sheet.specs.declared.inputs.Inputs.TheVariants.{Accepted}
 
 -- a `w` line
 abbrev line : List ℕ → List ℕ → List ℕ
@@ -46,19 +46,20 @@ record Shown : Type 0 where
   prefixes : List (List ℕ)
   suffixes : List (List ℕ)
   origin : Origin
-  said : Inputs
+  said : Result (Unit {0}) Refusal
 
 abbrev given : List ℕ → List (List ℕ) → List (List ℕ) → Origin → Shown
-given r p s o = record { root = r; prefixes = p; suffixes = s; origin = o; said = Accepted }
+given r p s o = record { root = r; prefixes = p; suffixes = s; origin = o; said = (Ok tt) }
 
-abbrev shown : List ℕ → MorphemeAnswer → Shown
-shown w a = record {
-  root = part w a.morpheme.parts.start a.morpheme.parts.end;
-  prefixes = map (λ k. get_or prefix_labels k []) (take a.morpheme.parts.prefix_count (a.morpheme.parts.prefix ∷ []));
-  suffixes = map (λ k. get_or suffixes k []) (take a.morpheme.parts.suffix_count a.morpheme.parts.suffixes);
-  origin = a.morpheme.origin;
-  said = a.inputs;
+abbrev shown : List ℕ → Result Morpheme Refusal → Shown
+shown w (Ok m) = record {
+  root = part w m.parts.start m.parts.end;
+  prefixes = map (λ k. get_or prefix_labels k []) (take m.parts.prefix_count (m.parts.prefix ∷ []));
+  suffixes = map (λ k. get_or suffixes k []) (take m.parts.suffix_count m.parts.suffixes);
+  origin = m.origin;
+  said = Ok tt;
 }
+shown w (Err r) = record { root = []; prefixes = []; suffixes = []; origin = Deshaj; said = Err r }
 
 abbrev answer : Input → Shown
 answer i = shown i.word (morpheme_answer i.word i.sheet)

@@ -1,14 +1,12 @@
 -- What decompose and root candidates strip from a piece (document 01, "Decompose"): the first prefix row that leaves a known word,
 -- then each suffix row in turn. It is said of replies, so that two sheets which reply alike are the same to it. Assumes nothing.
-use Rattle.std.specs.Prelude.{ℕ, suc, Bool, ◌&&◌, List, [], ◌∷◌, ◌++◌, length, eqb, leb}
+use Rattle.std.specs.Prelude.{ℕ, suc, Bool, ◌&&◌, List, [], ◌∷◌, ◌++◌, length, eqb, leb, None, Option, Some}
 use Rattle.runs.specs.Runs.{pick}
 use Rattle.text.specs.Characters.{chars}
 use Rattle.sheet.specs.Replies.{Ask, letters_by}
 use Rattle.strips.specs.Suffix.{remainders, rests_of, keeps_pronoun}
 use Rattle.strips.specs.declared.suffix.Rests.{Rests}
 use Rattle.strips.specs.Prefix.{leaves, after}
-use Rattle.strips.specs.declared.prefix.Rest.{Rest}
-use Rattle.strips.specs.declared.prefix.Rest.TheVariants as rests
 use Rattle.decomposition.specs.declared.fronts.Front.{Front}
 
 -- known by w
@@ -33,7 +31,7 @@ left_of ask piece suffix = pick (is_kept ask piece suffix) [] (remainders piece 
 
 -- the same as the code says them
 abbrev pub no_rests : Rests
-no_rests = record { count = 0; plain = 0; shared = 0 }
+no_rests = record { plain = None; shared = None }
 
 unfoldable pub open_rests : Ask → List ℕ → List ℕ → Rests
 open_rests ask piece suffix = pick (is_kept ask piece suffix) no_rests (rests_of piece suffix)
@@ -76,8 +74,8 @@ front_at k from = record { count = 1; row = k; from = from }
 unfoldable pub leaves_word : Ask → List ℕ → List ℕ → Bool
 leaves_word ask w form = leaves w form && is_word ask (after w form)
 
-unfoldable pub word_rest : Ask → List ℕ → List ℕ → Rest
-word_rest ask w form = pick (leaves_word ask w form) (rests.From (length form)) rests.Nothing
+unfoldable pub word_rest : Ask → List ℕ → List ℕ → Option ℕ
+word_rest ask w form = pick (leaves_word ask w form) (Some (length form)) None
 
 -- the first such row, the first of them row k
 abbrev pub first_front : Ask → List ℕ → ℕ → List (List ℕ) → Front

@@ -2,15 +2,13 @@
 #![tactic(auto)]
 
 ghost use Rattle.std.specs.Prelude.{◌≡◌, ◌+◌, ◌≤◌, ◌<◌, length};
-ghost use Rattle.sheet.specs.Replies.{reply, Indexed};
-ghost use Rattle.tables.specs.Rows.{suffixes, prefix_forms};
-ghost use Rattle.tables.specs.Tables.{Laid};
+ghost use Rattle.lookup.specs.Lexicons.{replies};
 ghost use Rattle.decomposition.specs.Strips.{least_root};
 ghost use Rattle.decomposition.specs.Parts.{root_text, decomposed_of, morpheme_of};
 
 use crate::fronts::first_front;
 use crate::suffixes::strip_rows;
-use lookup::starts::Start;
+use lookup::lexicon::Lexicon;
 use origin::decide_origin;
 use ranking::part_of;
 use tables::origins::Origin;
@@ -57,24 +55,15 @@ pub fn least_root(prefix_count: u8) -> usize
     4
 }
 
-// The parts that decompose finds, with both tables lent. The sheet is accepted, `starts` is its list, and the word has at most 192
-// bytes.
-pub fn decomposed(
-    sheet: &[u8],
-    starts: &[Start],
-    word: &[u8],
-    texts: &[u8],
-    cuts: &[u16],
-    forms: &[u8],
-    form_cuts: &[u16],
-) -> Parts
-    requires { Indexed sheet.now starts.now × Laid suffixes texts.now cuts.now × Laid prefix_forms forms.now form_cuts.now × (length word.now ≤ 192) }
-    ensures { result ≡ decomposed_of (reply sheet.now) word.now }
+// The parts that decompose finds by an accepted sheet. The word has at most 192 bytes.
+pub fn decomposed(sheet: &Lexicon<'_>, word: &[u8]) -> Parts
+    requires { length word.now ≤ 192 }
+    ensures { result ≡ decomposed_of (replies sheet.now) word.now }
 {
-    let front = first_front(sheet, starts, word, forms, form_cuts);
+    let front = first_front(sheet, word);
     let from = front.from;
     let least = least_root(front.count);
-    let s = strip_rows(sheet, starts, &word[from..], texts, cuts, least);
+    let s = strip_rows(sheet, &word[from..], least);
     let labels = s.labels;
     Parts {
         start: from as u8,
@@ -86,21 +75,15 @@ pub fn decomposed(
     }
 }
 
-// The decomposition of a word by an accepted sheet; the two tables are named here and lent down. `starts` are the first bytes of the
-// sheet's lines, and the word has at most 192 bytes.
-pub fn decompose_word(word: &[u8], sheet: &[u8], starts: &[Start]) -> Morpheme
-    requires { Indexed sheet.now starts.now × (length word.now ≤ 192) }
-    ensures { result ≡ morpheme_of (reply sheet.now) word.now }
+// The decomposition of a word by an accepted sheet. The word has at most 192 bytes.
+pub fn decompose_word(word: &[u8], sheet: &Lexicon<'_>) -> Morpheme
+    requires { length word.now ≤ 192 }
+    ensures { result ≡ morpheme_of (replies sheet.now) word.now }
 {
-    let texts = tables::suffixes();
-    let cuts = tables::suffix_starts();
-    let forms = tables::prefix_forms();
-    let form_cuts = tables::prefix_form_starts();
-    let parts = decomposed(sheet, starts, word, &texts, &cuts, &forms, &form_cuts);
-    let decision = decide_origin(word, sheet, starts);
-    let origin = decision.origin;
+    let parts = decomposed(sheet, word);
+    let decision = decide_origin(word, sheet);
     Morpheme {
-        parts: parts,
-        origin: origin,
+        parts,
+        origin: decision.origin,
     }
 }

@@ -1,5 +1,7 @@
 -- How large the places of an answer are: an accepted word has at most 192 bytes, an accepted sheet at most 65,536, a lemma's name at
 -- most 210, and a faulty line begins inside the sheet. So each place fits its bits of a code. The proofs of the exported functions cite it. Assumes nothing.
+use Rattle.std.specs.Prelude.{Err, None, Ok, Option, Result, Some}
+use Rattle.origin.specs.declared.OriginDecision.{OriginDecision}
 use Prim.Native.Nat.{ℕ, ◌+◌, ◌≤◌, ◌<◌}
 use mathlib.Core.Path.{◌≡◌, refl, sym, ap, subst, ◌∙◌}
 use mathlib.Core.Bool.{Bool, true, false, not, ◌&&◌}
@@ -18,23 +20,14 @@ use Rattle.sheet.specs.Limits.{sheet_limit}
 use Rattle.sheet.specs.Lines.{sheet_check, starts_of, line_at}
 use Rattle.sheet.specs.Replies.{reply}
 use Rattle.sheet.specs.Inputs.{inputs_of, Placed}
-use Rattle.sheet.specs.declared.check.SheetCheck.TheVariants as sheets
 use Rattle.refusals.specs.declared.Refusal.{Refusal}
-use Rattle.sheet.specs.declared.inputs.Inputs.{Inputs}
-use Rattle.sheet.specs.declared.inputs.Inputs.TheVariants as inputs
 use Rattle.sheet.proofs.Refusals.{accepted-each, refused-placed}
-use Rattle.lookup.specs.declared.search.Found.{Found}
-use Rattle.lookup.specs.declared.search.Found.TheVariants.{At, Nothing}
 use Rattle.lookup.specs.Search.{place_of}
 use Rattle.lookup.specs.Answers.{name_spot}
 use Rattle.sheet.proofs.Accepted.{accepted-short, accepted_up, up_member}
 use Rattle.sheet.proofs.Forms.{form-named}
 use Rattle.lookup.proofs.Halves.{place_asks}
 use Rattle.progressive.specs.declared.find.Progressive.{Progressive}
-use Rattle.progressive.specs.declared.entry.Answer.{Answer}
-use Rattle.progressive.specs.declared.entry.Answer.TheVariants as answers
-use Rattle.progressive.specs.declared.entry.Supported.{Supported}
-use Rattle.progressive.specs.declared.entry.Supported.TheVariants as supports
 use Rattle.progressive.specs.Progressive.{Outcome, no, yes, progressive_of}
 use Rattle.progressive.specs.Found.{form_of}
 use Rattle.progressive.specs.Answers.{answer_if, answer_of, Lies, Analyzed, supported_if, supported_of}
@@ -42,28 +35,16 @@ use Rattle.ranking.specs.Lists.{Rows, rows, over}
 use Rattle.paths.specs.Visits.{visits_of}
 use Rattle.paths.proofs.Promises.{few_visits}
 use Rattle.analysis.specs.Answers.{collected, said_by, said_of, rows_given, is_some, has_by, has_of, visits_in, visits_answer}
-use Rattle.analysis.specs.declared.entry.Visits.{Visits}
-use Rattle.analysis.specs.declared.entry.Visits.TheVariants as visits
-use Rattle.analysis.specs.declared.entry.Has.{Has}
-use Rattle.analysis.specs.declared.entry.Has.TheVariants as has
-use Rattle.analysis.specs.declared.entry.Said.{Said}
-use Rattle.analysis.specs.declared.entry.Said.TheVariants as said
 use Rattle.listing.specs.Texts.{listing_text, listing_room}
 use Rattle.writing.specs.Placed.{written_of}
 use Rattle.listing.specs.Printed.{said_text, readings_text, outcome_by, outcome_of}
 use Rattle.refusals.specs.Refusals.{number, numbers_of, Before}
 use Rattle.refusals.specs.declared.Refusal.TheVariants.{OutputTooShort}
-use Rattle.refusals.specs.declared.Written.{Written}
-use Rattle.refusals.specs.declared.Written.TheVariants as written
 use Rattle.refusals.proofs.Outputs.{number_small}
 use Rattle.roots.specs.Answers.{known_if, known_answer, roots_for}
-use Rattle.roots.specs.declared.entries.KnownAnswer.{KnownAnswer}
-use Rattle.roots.specs.declared.entries.KnownAnswer.TheVariants as known
 use Rattle.exports.specs.Codes.{Small}
 use Rattle.decomposition.proofs.Short.{word-short}
 use Rattle.origin.specs.Answers.{decision_if, decision_answer}
-use Rattle.origin.specs.declared.entries.DecisionAnswer.{DecisionAnswer}
-use Rattle.origin.specs.declared.entries.DecisionAnswer.TheVariants as decisions
 
 -- the number of a refusal and its place, as the code hands them on
 pub number-placed : (r : Refusal) (n at : ℕ) → n ∷ at ∷ [] ≡ numbers_of r → Placed r → (n < 256) × (at < sheet_limit)
@@ -81,138 +62,138 @@ is_name_short x h =
     leb-true (length x) 210 (and_right (ltb 0 (length x)) (leb (length x) 210) b)
 
 -- a name that the sheet has a `w` line for is the name of a form
-name-short : (s name : List ℕ) (f : Found) → sheet_check s ≡ sheets.Accepted → f ≡ place_of s 0x77 name → (name_spot s f).len ≤ 210
+name-short : (s name : List ℕ) (f : Option ℕ) → sheet_check s ≡ Ok tt → f ≡ place_of s 0x77 name → (name_spot s f).len ≤ 210
 unfolding place_of
-name-short s name Nothing h e = omega arith
-name-short s name (At at) h e =
+name-short s name None h e = omega arith
+name-short s name (Some at) h e =
     let a = place_asks s (key_of 0x77 name) (starts_of s) at (sym e) in
     is_name_short (line_at s at).name (form-named (drop at s) (up_member s [] (starts_of s) at (accepted_up s h) a.0))
 
-lemma-short : (w s : List ℕ) (o : Outcome) → sheet_check s ≡ sheets.Accepted → (form_of s w o).lemma_len ≤ 210
+lemma-short : (w s : List ℕ) (o : Outcome) → sheet_check s ≡ Ok tt → (form_of s w o).lemma_len ≤ 210
 lemma-short w s no h = omega arith
 lemma-short w s (yes name n) h = name-short s name (place_of s 0x77 name) h refl
 
 -- what an answer about progressive forms lets be said of word, sheet and faulty line
-abbrev pub SmallForm : List ℕ → List ℕ → Answer → Type 0
-SmallForm w s (answers.Refused r) = Placed r
-SmallForm w s (answers.Given form) = (length w ≤ word_limit) × (length s ≤ sheet_limit) × (form.lemma_len ≤ 210)
+abbrev pub SmallForm : List ℕ → List ℕ → Result Progressive Refusal → Type 0
+SmallForm w s (Err r) = Placed r
+SmallForm w s (Ok form) = (length w ≤ word_limit) × (length s ≤ sheet_limit) × (form.lemma_len ≤ 210)
 
 pub answer_small : (w s : List ℕ) → SmallForm w s (answer_of w s)
 unfolding answer_of
 answer_small w s = by (inputs_of w s) refl
   where
-    by : (i : Inputs) → inputs_of w s ≡ i → SmallForm w s (answer_if i w s)
-    by inputs.Accepted e =
+    by : (i : Result (Unit {0}) Refusal) → inputs_of w s ≡ i → SmallForm w s (answer_if i w s)
+    by (Ok _) e =
         let k = accepted-each w s e in
         (word-short w k.0, accepted-short s k.1, lemma-short w s (progressive_of (reply s) w) k.1)
-    by (inputs.Refused r) e = refused-placed w s r e
+    by (Err r) e = refused-placed w s r e
 
 -- the same of what the analysis gave, r, which turned out to be a
-pub analyzed_small : (w s : List ℕ) (r a : Answer) → Analyzed w s r → r ≡ a → SmallForm w s a
+pub analyzed_small : (w s : List ℕ) (r a : Result Progressive Refusal) → Analyzed w s r → r ≡ a → SmallForm w s a
 analyzed_small w s r a k e = subst (SmallForm w s) (sym k.settled ∙ e) (answer_small w s)
 
 -- the places of a form that was given
-pub form_small : (w s : List ℕ) (r : Answer) (f : Progressive) → Analyzed w s r → r ≡ answers.Given f →
+pub form_small : (w s : List ℕ) (r : Result Progressive Refusal) (f : Progressive) → Analyzed w s r → r ≡ Ok f →
     (f.main_end ≤ word_limit) × (f.lemma_len ≤ 210) × (f.lemma_at + f.lemma_len ≤ sheet_limit)
 form_small w s r f k e =
-    let n = analyzed_small w s r (answers.Given f) k e in
+    let n = analyzed_small w s r (Ok f) k e in
     let l = subst (Lies w s) e k.lies in
     (omega (arith, n, l), n.2, omega (arith, n, l))
 
 -- the same of a refusal in the other answers
-abbrev PlacedSupported : Supported → Type 0
-PlacedSupported (supports.Refused r) = Placed r
-PlacedSupported (supports.Given b) = Unit {0}
+abbrev PlacedSupported : Result Bool Refusal → Type 0
+PlacedSupported (Err r) = Placed r
+PlacedSupported (Ok b) = Unit {0}
 
 supported-placed : (w s : List ℕ) → PlacedSupported (supported_of w s)
 unfolding supported_of
 supported-placed w s = by (inputs_of w s) refl
   where
-    by : (i : Inputs) → inputs_of w s ≡ i → PlacedSupported (supported_if i w s)
-    by inputs.Accepted e = tt
-    by (inputs.Refused r) e = refused-placed w s r e
+    by : (i : Result (Unit {0}) Refusal) → inputs_of w s ≡ i → PlacedSupported (supported_if i w s)
+    by (Ok _) e = tt
+    by (Err r) e = refused-placed w s r e
 
 -- the answer d turned out to be the refusal r
-pub supported-refused : (w s : List ℕ) (d : Supported) (r : Refusal) → d ≡ supported_of w s → d ≡ supports.Refused r → Placed r
+pub supported-refused : (w s : List ℕ) (d : Result Bool Refusal) (r : Refusal) → d ≡ supported_of w s → d ≡ Err r → Placed r
 supported-refused w s d r e f = subst PlacedSupported (sym e ∙ f) (supported-placed w s)
 
-abbrev PlacedBy : DecisionAnswer → Type 0
-PlacedBy (decisions.Decided d) = Unit {0}
-PlacedBy (decisions.Refused r) = Placed r
+abbrev PlacedBy : Result OriginDecision Refusal → Type 0
+PlacedBy (Ok d) = Unit {0}
+PlacedBy (Err r) = Placed r
 
 decision-placed : (w s : List ℕ) → PlacedBy (decision_answer w s)
 unfolding decision_answer
 decision-placed w s = by (inputs_of w s) refl
   where
-    by : (i : Inputs) → inputs_of w s ≡ i → PlacedBy (decision_if i w s)
-    by inputs.Accepted e = tt
-    by (inputs.Refused r) e = refused-placed w s r e
+    by : (i : Result (Unit {0}) Refusal) → inputs_of w s ≡ i → PlacedBy (decision_if i w s)
+    by (Ok _) e = tt
+    by (Err r) e = refused-placed w s r e
 
-pub decision-refused : (w s : List ℕ) (d : DecisionAnswer) (r : Refusal) → d ≡ decision_answer w s → d ≡ decisions.Refused r → Placed r
+pub decision-refused : (w s : List ℕ) (d : Result OriginDecision Refusal) (r : Refusal) → d ≡ decision_answer w s → d ≡ Err r → Placed r
 decision-refused w s d r e f = subst PlacedBy (sym e ∙ f) (decision-placed w s)
 
-abbrev PlacedHas : Has → Type 0
-PlacedHas (has.Given b) = Unit {0}
-PlacedHas (has.Refused r) = Placed r
+abbrev PlacedHas : Result Bool Refusal → Type 0
+PlacedHas (Ok b) = Unit {0}
+PlacedHas (Err r) = Placed r
 
 has-placed : (w s : List ℕ) → PlacedHas (has_of w s)
 unfolding has_of said_of
 has-placed w s = by (inputs_of w s) refl (collected w s)
   where
-    by : (i : Inputs) → inputs_of w s ≡ i → (c : Rows) → PlacedHas (has_by (said_by i c) (is_some (rows_given w s)))
-    by inputs.Accepted e (rows rs) = tt
-    by inputs.Accepted e over = tt
-    by (inputs.Refused r) e c = refused-placed w s r e
+    by : (i : Result (Unit {0}) Refusal) → inputs_of w s ≡ i → (c : Rows) → PlacedHas (has_by (said_by i c) (is_some (rows_given w s)))
+    by (Ok _) e (rows rs) = tt
+    by (Ok _) e over = tt
+    by (Err r) e c = refused-placed w s r e
 
-pub has-refused : (w s : List ℕ) (d : Has) (r : Refusal) → d ≡ has_of w s → d ≡ has.Refused r → Placed r
+pub has-refused : (w s : List ℕ) (d : Result Bool Refusal) (r : Refusal) → d ≡ has_of w s → d ≡ Err r → Placed r
 has-refused w s d r e f = subst PlacedHas (sym e ∙ f) (has-placed w s)
 
-abbrev PlacedKnown : KnownAnswer → Type 0
-PlacedKnown (known.Known b) = Unit {0}
-PlacedKnown (known.Refused r) = Placed r
+abbrev PlacedKnown : Result Bool Refusal → Type 0
+PlacedKnown (Ok b) = Unit {0}
+PlacedKnown (Err r) = Placed r
 
 known_placed : (w s : List ℕ) → PlacedKnown (known_answer w s)
 unfolding known_answer
 known_placed w s = by (inputs_of w s) refl
   where
-    by : (i : Inputs) → inputs_of w s ≡ i → PlacedKnown (known_if i (roots_for w s))
-    by inputs.Accepted e = tt
-    by (inputs.Refused r) e = refused-placed w s r e
+    by : (i : Result (Unit {0}) Refusal) → inputs_of w s ≡ i → PlacedKnown (known_if i (roots_for w s))
+    by (Ok _) e = tt
+    by (Err r) e = refused-placed w s r e
 
-pub known_refused : (w s : List ℕ) (d : KnownAnswer) (r : Refusal) → d ≡ known_answer w s → d ≡ known.Refused r → Placed r
+pub known_refused : (w s : List ℕ) (d : Result Bool Refusal) (r : Refusal) → d ≡ known_answer w s → d ≡ Err r → Placed r
 known_refused w s d r e f = subst PlacedKnown (sym e ∙ f) (known_placed w s)
 
 -- the same of the pieces visited, which are at most 5,000
-abbrev SmallVisits : Visits → Type 0
-SmallVisits (visits.Given n) = n ≤ 5000
-SmallVisits (visits.Refused r) = Placed r
+abbrev SmallVisits : Result ℕ Refusal → Type 0
+SmallVisits (Ok n) = n ≤ 5000
+SmallVisits (Err r) = Placed r
 
 visits_small : (w s : List ℕ) → SmallVisits (visits_answer w s)
 unfolding visits_answer
 visits_small w s = by (inputs_of w s) refl
   where
-    by : (i : Inputs) → inputs_of w s ≡ i → SmallVisits (visits_in i (visits_of (reply s) w))
-    by inputs.Accepted e = few_visits (reply s) w
-    by (inputs.Refused r) e = refused-placed w s r e
+    by : (i : Result (Unit {0}) Refusal) → inputs_of w s ≡ i → SmallVisits (visits_in i (visits_of (reply s) w))
+    by (Ok _) e = few_visits (reply s) w
+    by (Err r) e = refused-placed w s r e
 
-pub visits_told : (w s : List ℕ) (d x : Visits) → d ≡ visits_answer w s → d ≡ x → SmallVisits x
+pub visits_told : (w s : List ℕ) (d x : Result ℕ Refusal) → d ≡ visits_answer w s → d ≡ x → SmallVisits x
 visits_told w s d x e f = subst SmallVisits (sym e ∙ f) (visits_small w s)
 
 -- the same of what is said of a list of readings; where it is given, the word is short
-abbrev PlacedSaid : List ℕ → Said → Type 0
-PlacedSaid w said.Listed = length w ≤ word_limit
-PlacedSaid w (said.Refused r) = Placed r
+abbrev PlacedSaid : List ℕ → Result (Unit {0}) Refusal → Type 0
+PlacedSaid w (Ok _) = length w ≤ word_limit
+PlacedSaid w (Err r) = Placed r
 
 said-placed : (w s : List ℕ) → PlacedSaid w (said_of w s)
 unfolding said_of
 said-placed w s = by (inputs_of w s) refl (collected w s)
   where
-    by : (i : Inputs) → inputs_of w s ≡ i → (c : Rows) → PlacedSaid w (said_by i c)
-    by inputs.Accepted e (rows rs) = word-short w (accepted-each w s e).0
-    by inputs.Accepted e over = tt
-    by (inputs.Refused r) e c = refused-placed w s r e
+    by : (i : Result (Unit {0}) Refusal) → inputs_of w s ≡ i → (c : Rows) → PlacedSaid w (said_by i c)
+    by (Ok _) e (rows rs) = word-short w (accepted-each w s e).0
+    by (Ok _) e over = tt
+    by (Err r) e c = refused-placed w s r e
 
-pub said_small : (w s : List ℕ) (d x : Said) → d ≡ said_of w s → d ≡ x → PlacedSaid w x
+pub said_small : (w s : List ℕ) (d x : Result (Unit {0}) Refusal) → d ≡ said_of w s → d ≡ x → PlacedSaid w x
 said_small w s d x e f = subst (PlacedSaid w) (sym e ∙ f) (said-placed w s)
 
 -- the same of what writing the list as a text gave: its text has no more bytes than the longest list
@@ -220,17 +201,17 @@ outcome-placed : (w s out : List ℕ) → length (readings_text w s) ≤ listing
 unfolding outcome_of readings_text
 outcome-placed w s out h = by (said_of w s) (said-placed w s) h
   where
-    to : (b : Bool) (n : ℕ) → n ≤ listing_room → Small (pick b (written.Wrote n) (written.Refused OutputTooShort))
+    to : (b : Bool) (n : ℕ) → n ≤ listing_room → Small (pick b (Ok n) (Err OutputTooShort))
     to true n h = omega arith
     to false n h = tt
 
-    by : (x : Said) → PlacedSaid w x → length (said_text w x (rows_given w s)) ≤ listing_room → Small (outcome_by x (written_of (listing_text w (rows_given w s)) out))
-    by said.Listed p n = to (leb (length (listing_text w (rows_given w s))) (length out)) (length (listing_text w (rows_given w s))) n
-    by (said.Refused r) p n = p
+    by : (x : Result (Unit {0}) Refusal) → PlacedSaid w x → length (said_text w x (rows_given w s)) ≤ listing_room → Small (outcome_by x (written_of (listing_text w (rows_given w s)) out))
+    by (Ok _) p n = to (leb (length (listing_text w (rows_given w s))) (length out)) (length (listing_text w (rows_given w s))) n
+    by (Err r) p n = p
 
-pub outcome_small : (w s out : List ℕ) (r : Written) → r ≡ outcome_of w s out → length (readings_text w s) ≤ listing_room → Small r
+pub outcome_small : (w s out : List ℕ) (r : Result ℕ Refusal) → r ≡ outcome_of w s out → length (readings_text w s) ≤ listing_room → Small r
 outcome_small w s out r e h = subst Small (sym e) (outcome-placed w s out h)
 
 -- what is said of word and sheet, i, turned out to be the refusal r
-pub inputs_refused : (w s : List ℕ) (i : Inputs) (r : Refusal) → i ≡ inputs_of w s → i ≡ inputs.Refused r → Placed r
+pub inputs_refused : (w s : List ℕ) (i : Result (Unit {0}) Refusal) (r : Refusal) → i ≡ inputs_of w s → i ≡ Err r → Placed r
 inputs_refused w s i r e f = refused-placed w s r (sym e ∙ f)

@@ -1,5 +1,6 @@
 -- Buffers that are always long enough: 1,792 bytes for the readings of a word, 528 for its root candidates, 37,386 for the list of its
 -- readings as a text. Assumes nothing.
+use Rattle.std.specs.Prelude.{Err, Ok, Result}
 use Prim.Native.Nat.{ℕ, ◌*◌, ◌≤◌, ◌<◌}
 use native.Mathlib.Omega.{arith}
 use native.Mathlib.Nat.{suc-mul}
@@ -15,11 +16,7 @@ use Rattle.sheet.specs.Replies.{Ask, reply}
 use Rattle.refusals.specs.declared.Refusal.{Refusal}
 use Rattle.refusals.specs.Refusals.{number, places, output_by}
 use Rattle.refusals.specs.declared.Refusal.TheVariants.{OutputTooShort}
-use Rattle.refusals.specs.declared.Written.{Written}
-use Rattle.refusals.specs.declared.Written.TheVariants as written
 use Rattle.refusals.proofs.Outputs as outputs
-use Rattle.sheet.specs.declared.inputs.Inputs.{Inputs}
-use Rattle.sheet.specs.declared.inputs.Inputs.TheVariants as inputs
 use Rattle.sheet.proofs.Refusals.{accepted-each}
 use Rattle.decomposition.proofs.Short.{word-short}
 use Rattle.ranking.specs.Lists.{list_limit, Rows}
@@ -31,8 +28,6 @@ use Rattle.ranking.specs.Stored.{no_segment}
 use Rattle.paths.proofs.Promises.{Listed}
 use Rattle.roots.specs.Answers.{roots_for}
 use Rattle.roots.proofs.Bounded.{roots_few}
-use Rattle.analysis.specs.declared.entry.Said.{Said}
-use Rattle.analysis.specs.declared.entry.Said.TheVariants as said
 use Rattle.analysis.specs.Answers.{collected, said_by, said_of, rows_given, said_numbers}
 use Rattle.analysis.proofs.Promises.{rows_few, seven_exactly, all_listed, said-below}
 use Rattle.listing.specs.Texts.{row_text, row_texts, listing_text, row_room, listing_room}
@@ -46,32 +41,32 @@ use Rattle.exports.proofs.Widths.{rows_long}
 use Rattle.exports.proofs.Put.{both}
 
 -- a list that is given is stored, all of it
-pub readings_enough : (w s out : List ℕ) → row_width * list_limit ≤ length out → said_of w s ≡ said.Listed →
+pub readings_enough : (w s out : List ℕ) → row_width * list_limit ≤ length out → said_of w s ≡ Ok tt →
     (answered (length (rows_given w s)) ≡ (readings_filled w s out).code)
     × (each row_bytes (rows_given w s) ++ drop (row_width * length (rows_given w s)) out ≡ (readings_filled w s out).buffer)
 unfolding readings_filled
 readings_enough w s out h e =
     let n = rows_few w s in
-    let f : rows_filled row_width row_bytes (rows_given w s) out ≡ readings_if (said_of w s) (rows_given w s) out = ap (λ (x : Said). readings_if x (rows_given w s) out) (sym e) in
+    let f : rows_filled row_width row_bytes (rows_given w s) out ≡ readings_if (said_of w s) (rows_given w s) out = ap (λ (x : Result (Unit {0}) Refusal). readings_if x (rows_given w s) out) (sym e) in
     both f (rows_long row_bytes row_width (length (rows_given w s)) (rows_given w s) out refl _ (omega arith) refl)
 
-pub candidates_enough : (w s out : List ℕ) → 528 ≤ length out → inputs_of w s ≡ inputs.Accepted →
+pub candidates_enough : (w s out : List ℕ) → 528 ≤ length out → inputs_of w s ≡ Ok tt →
     (answered (length (roots_for w s)) ≡ (candidates_filled w s out).code)
     × (each candidate_bytes (roots_for w s) ++ drop (33 * length (roots_for w s)) out ≡ (candidates_filled w s out).buffer)
 unfolding candidates_filled
 candidates_enough w s out h e =
     let n = roots_few w s in
-    let f : rows_filled 33 candidate_bytes (roots_for w s) out ≡ candidates_if (inputs_of w s) (roots_for w s) out = ap (λ (x : Inputs). candidates_if x (roots_for w s) out) (sym e) in
+    let f : rows_filled 33 candidate_bytes (roots_for w s) out ≡ candidates_if (inputs_of w s) (roots_for w s) out = ap (λ (x : Result (Unit {0}) Refusal). candidates_if x (roots_for w s) out) (sym e) in
     both f (rows_long candidate_bytes 33 (length (roots_for w s)) (roots_for w s) out refl _ (omega arith) refl)
 
 -- where a list is given, word and sheet are accepted
-listed-accepted : (w s : List ℕ) → said_of w s ≡ said.Listed → inputs_of w s ≡ inputs.Accepted
+listed-accepted : (w s : List ℕ) → said_of w s ≡ Ok tt → inputs_of w s ≡ Ok tt
 unfolding said_of
 listed-accepted w s e = by (inputs_of w s) (collected w s) e
   where
-    by : (i : Inputs) (c : Rows) → said_by i c ≡ said.Listed → i ≡ inputs.Accepted
-    by inputs.Accepted c e = refl
-    by (inputs.Refused r) c e = cc
+    by : (i : Result (Unit {0}) Refusal) (c : Rows) → said_by i c ≡ Ok tt → i ≡ Ok tt
+    by (Ok _) c e = refl
+    by (Err r) c e = cc
 
 filled_long : {A : Type 0} (n : ℕ) (d : A) (xs : List A) → length (filled n d xs) ≡ n
 filled_long n d xs =
@@ -104,7 +99,7 @@ rows-size ask w (p ∷ ps) h k =
     omega arith
 
 -- of a list that is given, the paths whose readings its rows are, and how long the word is
-pub given_paths : (w s : List ℕ) → said_of w s ≡ said.Listed → (length w ≤ 192) × Listed (reply s) w (rows_given w s)
+pub given_paths : (w s : List ℕ) → said_of w s ≡ Ok tt → (length w ≤ 192) × Listed (reply s) w (rows_given w s)
 given_paths w s e =
     let a = accepted-each w s (listed-accepted w s e) in
     let few : AtLeast 65 (IsReading (reply s) w) → ⊥ =
@@ -112,7 +107,7 @@ given_paths w s e =
     (word-short w a.0, (all_listed w s a.0 a.1 few).1)
 
 -- the text of a list that is given has at most 37,386 bytes
-pub listing_bounded : (w s : List ℕ) → said_of w s ≡ said.Listed → length (listing_text w (rows_given w s)) ≤ listing_room
+pub listing_bounded : (w s : List ℕ) → said_of w s ≡ Ok tt → length (listing_text w (rows_given w s)) ≤ listing_room
 listing_bounded w s e =
     let g = given_paths w s e in
     by (rows_given w s) g.0 g.1 (rows_few w s)
@@ -125,7 +120,7 @@ listing_bounded w s e =
         listing-size w rs (length l.paths) (omega arith) (sym n) u
 
 -- so in a buffer of so many bytes the text stands whole
-pub listing-whole : (w s out : List ℕ) → listing_room ≤ length out → said_of w s ≡ said.Listed →
+pub listing-whole : (w s out : List ℕ) → listing_room ≤ length out → said_of w s ≡ Ok tt →
     (answered (length (listing_text w (rows_given w s))) ≡ written_code (outcome_of w s out))
     × (listing_text w (rows_given w s) ++ drop (length (listing_text w (rows_given w s))) out ≡ left_of w s out)
 unfolding outcome_of left_of
@@ -133,9 +128,9 @@ listing-whole w s out h e =
     let text = listing_text w (rows_given w s) in
     let m = listing_bounded w s e in
     let t : leb (length text) (length out) ≡ true = le-leb (length text) (length out) (omega arith) in
-    let o : written.Wrote (length text) ≡ outcome_by (said_of w s) (written_of text out) = outputs.is_written (length text) (length out) (length text) refl (omega arith)
-    ∙ ap (λ (x : Said). outcome_by x (written_of text out)) (sym e) in
-    (ap written_code o, ap (λ (x : Written). output_by x text out) o)
+    let o : Ok (length text) ≡ outcome_by (said_of w s) (written_of text out) = outputs.is_written (length text) (length out) (length text) refl (omega arith)
+    ∙ ap (λ (x : Result (Unit {0}) Refusal). outcome_by x (written_of text out)) (sym e) in
+    (ap written_code o, ap (λ (x : Result ℕ Refusal). output_by x text out) o)
 
 -- and the code of `yunthirel_listing` is never 8
 pub listing_enough : (w s out : List ℕ) → listing_room ≤ length out → written_code (outcome_of w s out) ≡ refusal_code OutputTooShort → ⊥
@@ -146,7 +141,7 @@ listing_enough w s out h e = by (said_of w s) (λ g. (listing-whole w s out h g)
     not_eight n [] h e = absurd (omega arith)
     not_eight n (at ∷ more) h e = absurd (omega arith)
 
-    by : (x : Said) → (x ≡ said.Listed → answered (length (listing_text w (rows_given w s))) ≡ 8) → ((r : Refusal) → x ≡ said.Refused r → number r < 8)
+    by : (x : Result (Unit {0}) Refusal) → (x ≡ Ok tt → answered (length (listing_text w (rows_given w s))) ≡ 8) → ((r : Refusal) → x ≡ Err r → number r < 8)
         → written_code (outcome_by x (written_of (listing_text w (rows_given w s)) out)) ≡ 8 → ⊥
-    by said.Listed k b e = let z = k refl in absurd (omega arith)
-    by (said.Refused r) k b e = not_eight (number r) (places r) (b r refl) e
+    by (Ok _) k b e = let z = k refl in absurd (omega arith)
+    by (Err r) k b e = not_eight (number r) (places r) (b r refl) e

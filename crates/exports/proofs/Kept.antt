@@ -1,4 +1,5 @@
 -- What is stored of the rows that the walk has kept. The proofs of `rows` cite these. Assumes nothing.
+use Rattle.std.specs.Prelude.{Err, Ok, Result}
 use Prim.Native.Nat.{ℕ, zero, suc, ◌<◌, ◌≤◌}
 use native.Mathlib.Omega.{arith}
 use mathlib.Core.Path.{◌≡◌, refl, sym, ap, ◌∙◌}
@@ -9,8 +10,6 @@ use Rattle.refusals.specs.declared.Refusal.{Refusal}
 use Rattle.refusals.specs.declared.Refusal.TheVariants.{TooManyReadings}
 use Rattle.sheet.specs.Inputs.{inputs_of}
 use Rattle.sheet.specs.Replies.{reply}
-use Rattle.sheet.specs.declared.inputs.Inputs.{Inputs}
-use Rattle.sheet.specs.declared.inputs.Inputs.TheVariants as inputs
 use Rattle.ranking.specs.declared.Reading.{Reading}
 use Rattle.ranking.specs.declared.Classified.{Classified}
 use Rattle.ranking.specs.Lists.{Rows, list_limit}
@@ -25,26 +24,26 @@ use Rattle.exports.specs.Rows.{Filled, row_bytes, row_width, rows_filled, readin
 
 module _ (w s out : List ℕ) where
   -- by what is said of word and sheet, and what the walk has kept
-  readings_by : Inputs → Rows → Filled
+  readings_by : Result (Unit {0}) Refusal → Rows → Filled
   readings_by i c = readings_if (said_by i c) (rows_by i (listed_rows (reply s) w c)) out
 
   filled-by : readings_by (inputs_of w s) (collected w s) ≡ readings_filled w s out
   unfolding readings_by readings_filled said_of rows_given
   filled-by = refl
 
-  pub filled-refused : (r : Refusal) → inputs.Refused r ≡ inputs_of w s → record { code = refusal_code r; buffer = out } ≡ readings_filled w s out
+  pub filled-refused : (r : Refusal) → Err r ≡ inputs_of w s → record { code = refusal_code r; buffer = out } ≡ readings_filled w s out
   unfolding readings_by
-  filled-refused r e = ap (λ (i : Inputs). readings_by i (collected w s)) e ∙ filled-by
+  filled-refused r e = ap (λ (i : Result (Unit {0}) Refusal). readings_by i (collected w s)) e ∙ filled-by
 
-  module _ (kept : List ℕ) (n : ℕ) (a : inputs.Accepted ≡ inputs_of w s) (e : kept_of kept n ≡ collected w s) where
+  module _ (kept : List ℕ) (n : ℕ) (a : (Ok tt) ≡ inputs_of w s) (e : kept_of kept n ≡ collected w s) where
     pub filled-over : list_limit < n → record { code = refusal_code TooManyReadings; buffer = out } ≡ readings_filled w s out
     unfolding readings_by
-    filled-over h = ap (readings_by inputs.Accepted) (kept-over kept n h ∙ e) ∙ ap (λ (i : Inputs). readings_by i (collected w s)) a ∙ filled-by
+    filled-over h = ap (readings_by (Ok tt)) (kept-over kept n h ∙ e) ∙ ap (λ (i : Result (Unit {0}) Refusal). readings_by i (collected w s)) a ∙ filled-by
 
     pub filled-rows : n ≤ list_limit → rows_filled row_width row_bytes (map (classified (reply s) w) (take n (rows_in kept))) out ≡ readings_filled w s out
     unfolding readings_by
     filled-rows h =
-        ap (readings_by inputs.Accepted) (kept-rows kept n (take n (rows_in kept)) h refl ∙ e) ∙ ap (λ (i : Inputs). readings_by i (collected w s)) a ∙ filled-by
+        ap (readings_by (Ok tt)) (kept-rows kept n (take n (rows_in kept)) h refl ∙ e) ∙ ap (λ (i : Result (Unit {0}) Refusal). readings_by i (collected w s)) a ∙ filled-by
 
 -- the row of a kept reading
 pub get_map : (f : Reading → Classified) (xs : List Reading) (i : ℕ) (d : Reading) (c : Classified) → i < length xs → get_or (map f xs) i c ≡ f (get_or xs i d)

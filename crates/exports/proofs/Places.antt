@@ -1,5 +1,7 @@
 -- A decomposition and every listed candidate have 24 places for suffix rows, so that a row of the buffer holds all of them. Assumes
 -- nothing.
+use Rattle.std.specs.Prelude.{Err, Ok, Result}
+use Rattle.refusals.specs.declared.Refusal.{Refusal}
 use Prim.Native.Nat.{ℕ, zero, suc}
 use mathlib.Core.Path.{◌≡◌, refl, ap}
 use mathlib.Core.Bool.{Bool, true, false}
@@ -11,13 +13,10 @@ use Rattle.text.specs.Characters.{chars}
 use Rattle.tables.specs.Rows.{prefix_forms, suffixes}
 use Rattle.sheet.specs.Replies.{Ask, letters_by, reply}
 use Rattle.sheet.specs.Inputs.{inputs_of}
-use Rattle.sheet.specs.declared.inputs.Inputs.{Inputs}
-use Rattle.sheet.specs.declared.inputs.Inputs.TheVariants as inputs
 use Rattle.sheet.specs.declared.letters.Letters.{Letters}
 use Rattle.strips.specs.Prefix.{leaves}
 use Rattle.decomposition.specs.Strips.{label_row, least_root, left_of, no_front, front_at, first_front}
 use Rattle.decomposition.specs.Parts.{filled, label_limit, root_text, parts_of, behind_front, decomposed_of, morpheme_of}
-use Rattle.decomposition.specs.Answers.{morpheme_if, morpheme_answer}
 use Rattle.decomposition.specs.declared.Parts.{Parts}
 use Rattle.decomposition.specs.declared.fronts.Front.{Front}
 use Rattle.roots.specs.Rank.{ahead_of}
@@ -52,14 +51,10 @@ decomposed_full ask w =
     let f = first_front ask w 0 prefix_forms in
     parts_full f (behind_front ask w f).piece (behind_front ask w f).labels
 
--- the decomposition, and what stands beside a refusal
-pub answer_full : (w s : List ℕ) → Full (morpheme_answer w s).morpheme.parts
-unfolding morpheme_answer morpheme_of
-answer_full w s = by (inputs_of w s)
-  where
-    by : (i : Inputs) → Full (morpheme_if i w s).morpheme.parts
-    by inputs.Accepted = decomposed_full (reply s) w
-    by (inputs.Refused r) = parts_full no_front [] []
+-- the decomposition
+pub morpheme_full : (ask : Ask) (w : List ℕ) → Full (morpheme_of ask w).parts
+unfolding morpheme_of
+morpheme_full ask w = decomposed_full ask w
 
 -- What is offered.
 
@@ -148,6 +143,6 @@ pub roots_full : (w s : List ℕ) → Every FullRow (roots_for w s)
 unfolding roots_for
 roots_full w s = by (inputs_of w s)
   where
-    by : (i : Inputs) → Every FullRow (roots_if i w s)
-    by inputs.Accepted = candidates_full (reply s) w
-    by (inputs.Refused r) = tt
+    by : (i : Result (Unit {0}) Refusal) → Every FullRow (roots_if i w s)
+    by (Ok _) = candidates_full (reply s) w
+    by (Err r) = tt

@@ -1,5 +1,8 @@
 -- Laws of what is stored in a lent buffer. The proofs of the functions of `parts` and `rows` cite these. Assumes nothing.
+use Rattle.std.specs.Prelude.{Err, Ok, Result}
+use Rattle.refusals.specs.declared.Refusal.{Refusal}
 use Prim.Native.Nat.{ℕ, ◌+◌, ◌*◌, ◌/◌, ◌%◌, ◌<◌, ◌≤◌}
+use native.Mathlib.Omega.{arith}
 use mathlib.Core.Path.{◌≡◌, refl, sym, ap, ◌∙◌}
 use mathlib.Core.List.{List, ◌++◌, append_assoc}
 use lib.ListN.{length, take, drop}
@@ -7,13 +10,9 @@ use lib.Seq.{take_at, drop_at, drop-drop}
 use borrow.Rule.Slice.PartMut.{put_mid}
 use borrow.Author.Tests.{lt-ltb, le-ltb}
 use Rattle.sheet.specs.Inputs.{inputs_of}
-use Rattle.sheet.specs.declared.inputs.Inputs.{Inputs}
-use Rattle.sheet.specs.declared.inputs.Inputs.TheVariants as inputs
 use Rattle.decomposition.specs.Answers.{morpheme_if, morpheme_answer}
 use Rattle.decomposition.specs.declared.Morpheme.{Morpheme}
-use Rattle.decomposition.specs.declared.entries.MorphemeAnswer.{MorphemeAnswer}
 use Rattle.ranking.specs.declared.Classified.{Classified}
-use Rattle.analysis.specs.declared.entry.Said.{Said}
 use Rattle.analysis.specs.Answers.{said_of, rows_given}
 use Rattle.roots.specs.Answers.{roots_for}
 use Rattle.roots.specs.declared.RootCandidate.{RootCandidate}
@@ -37,31 +36,35 @@ module _ (code : ℕ) (bytes out : List ℕ) where
   pub stored_long : (later : List ℕ) → 33 ≤ length out → later ≡ bytes ++ drop 33 out → (code ≡ (stored code bytes out).code) × (later ≡ (stored code bytes out).buffer)
   stored_long later h e = rw (le-ltb (length out) 33 h) (refl, e)
 
--- what an answer about decomposition says of word and sheet
-pub answer_inputs : (w s : List ℕ) (a : MorphemeAnswer) → a ≡ morpheme_answer w s → a.inputs ≡ inputs_of w s
+-- what an answer about decomposition refuses is refused of word and sheet
+pub answer_refused : (w s : List ℕ) (r : Refusal) → Err r ≡ morpheme_answer w s → inputs_of w s ≡ Err r
 unfolding morpheme_answer
-answer_inputs w s a e = ap (λ (x : MorphemeAnswer). x.inputs) e ∙ by (inputs_of w s)
+answer_refused w s r = by (inputs_of w s)
   where
-    by : (i : Inputs) → (morpheme_if i w s).inputs ≡ i
-    by inputs.Accepted = refl
-    by (inputs.Refused r) = refl
+    by : (i : Result (Unit {0}) Refusal) → Err r ≡ morpheme_if i w s → i ≡ Err r
+    by (Ok _) e = absurd (let z : ◌≡◌ {A = ℕ} 0 1 = cc in omega arith)
+    by (Err q) e = cc
 
 -- what the entries do, by what is said of word and sheet
-pub decompose_is : (w s out : List ℕ) (a : MorphemeAnswer) → a ≡ morpheme_answer w s → decompose_if a.inputs a.morpheme out ≡ decompose_filled w s out
+pub decompose_is : (w s out : List ℕ) (a : Result Morpheme Refusal) → a ≡ morpheme_answer w s → decompose_if a out ≡ decompose_filled w s out
 unfolding decompose_filled
-decompose_is w s out a e = ap (λ (x : MorphemeAnswer). decompose_if x.inputs x.morpheme out) e
+decompose_is w s out a e = ap (λ (x : Result Morpheme Refusal). decompose_if x out) e
 
-pub candidates_is : (w s out : List ℕ) (i : Inputs) (rows : List RootCandidate) → i ≡ inputs_of w s → rows ≡ roots_for w s → candidates_if i rows out ≡ candidates_filled w s out
+pub candidates_is : (w s out : List ℕ) (i : Result (Unit {0}) Refusal) (rows : List RootCandidate) → i ≡ inputs_of w s → rows ≡ roots_for w s → candidates_if i rows out ≡ candidates_filled w s out
 unfolding candidates_filled
-candidates_is w s out i rows e q = ap (λ (x : Inputs). candidates_if x rows out) e ∙ ap (λ (x : List RootCandidate). candidates_if (inputs_of w s) x out) q
+candidates_is w s out i rows e q = ap (λ (x : Result (Unit {0}) Refusal). candidates_if x rows out) e ∙ ap (λ (x : List RootCandidate). candidates_if (inputs_of w s) x out) q
 
-pub readings_is : (w s out : List ℕ) (x : Said) (rows : List Classified) → x ≡ said_of w s → rows ≡ rows_given w s → readings_if x rows out ≡ readings_filled w s out
+pub readings_is : (w s out : List ℕ) (x : Result (Unit {0}) Refusal) (rows : List Classified) → x ≡ said_of w s → rows ≡ rows_given w s → readings_if x rows out ≡ readings_filled w s out
 unfolding readings_filled
-readings_is w s out x rows e q = ap (λ (y : Said). readings_if y rows out) e ∙ ap (λ (l : List Classified). readings_if (said_of w s) l out) q
+readings_is w s out x rows e q = ap (λ (y : Result (Unit {0}) Refusal). readings_if y rows out) e ∙ ap (λ (l : List Classified). readings_if (said_of w s) l out) q
 
 -- both parts of what is stated of an answer, from one equation
 pub both : {x y : Filled} {code : ℕ} {later : List ℕ} → x ≡ y → (code ≡ x.code) × (later ≡ x.buffer) → (code ≡ y.code) × (later ≡ y.buffer)
 both e (p, q) = (p ∙ ap (λ (f : Filled). f.code) e, q ∙ ap (λ (f : Filled). f.buffer) e)
+
+-- where nothing is stored: the code alone
+pub same : {y : Filled} {code number : ℕ} {out : List ℕ} → record { code = number; buffer = out } ≡ y → code ≡ number → (code ≡ y.code) × (out ≡ y.buffer)
+same e p = (p ∙ ap (λ (f : Filled). f.code) e, ap (λ (f : Filled). f.buffer) e)
 
 -- six bytes stored behind the 22 at the front: `now` holds those, and `part` is what stands there then
 pub behind-front : (front tail old now part : List ℕ) → now ≡ front ++ drop 22 old → length front ≡ 22 → part ≡ tail

@@ -1,5 +1,6 @@
 -- What the static library's functions give can be read back as the C header does (specs/Read): the parts of a code, and the rows of
 -- readings, candidates and decompositions. Assumes nothing.
+use Rattle.std.specs.Prelude.{Err, Ok, Result}
 use Prim.Native.Nat.{ℕ, zero, suc, ◌+◌, ◌*◌, ◌/◌, ◌%◌, ◌≤◌, ◌<◌}
 use native.Mathlib.Omega.{arith}
 use native.Mathlib.Nat.{mul-suc, mul-zero, not-suc-le-zero, le_of_suc-le-suc}
@@ -17,19 +18,15 @@ use Rattle.tables.specs.declared.origins.Origin.{Origin}
 use Rattle.tables.specs.declared.origins.Origin.TheVariants.{Tatsam, Tadbhav, Deshaj, Aagantuk}
 use Rattle.refusals.specs.Refusals.{number, places}
 use Rattle.refusals.proofs.Outputs.{number_small}
-use Rattle.text.specs.declared.word.WordCheck.{WordCheck}
+use Rattle.text.specs.declared.word.WordFault.{WordFault}
 use Rattle.sheet.specs.Inputs.{inputs_of, of_word, by_sheet, numbers_given}
-use Rattle.sheet.specs.declared.check.SheetCheck.{SheetCheck}
+use Rattle.sheet.specs.declared.check.SheetFault.{SheetFault}
 use Rattle.refusals.specs.declared.Refusal.{Refusal}
 use Rattle.sheet.specs.Replies.{reply}
-use Rattle.sheet.specs.declared.inputs.Inputs.{Inputs}
-use Rattle.sheet.specs.declared.inputs.Inputs.TheVariants as inputs
 use Rattle.progressive.specs.Progressive.{Outcome, no, yes, progressive_of}
 use Rattle.progressive.specs.Found.{form_of}
 use Rattle.progressive.specs.Answers.{answer_if, answer_of}
 use Rattle.progressive.specs.declared.find.Progressive.{Progressive}
-use Rattle.progressive.specs.declared.entry.Answer.{Answer}
-use Rattle.progressive.specs.declared.entry.Answer.TheVariants as answers
 use Rattle.ranking.specs.Places.{no_row}
 use Rattle.ranking.specs.Stored.{cells, reading_bytes, reading_at}
 use Rattle.ranking.proofs.Backs.{two_read, reading_read}
@@ -37,14 +34,12 @@ use Rattle.ranking.specs.declared.Reading.{Reading}
 use Rattle.ranking.specs.declared.Classified.{Classified}
 use Rattle.paths.specs.Chains.{Route}
 use Rattle.paths.specs.Readings.{row_of}
-use Rattle.analysis.specs.declared.entry.Said.{Said}
-use Rattle.analysis.specs.declared.entry.Said.TheVariants as said
 use Rattle.analysis.specs.Answers.{said_of, rows_given}
 use Rattle.origin.specs.declared.OriginSource.{OriginSource}
 use Rattle.origin.specs.declared.OriginSource.TheVariants.{Override, Kosha, Heuristic, Unknown}
 use Rattle.origin.specs.declared.OriginDecision.{OriginDecision}
-use Rattle.origin.specs.declared.entries.DecisionAnswer.TheVariants as decisions
-use Rattle.decomposition.specs.Answers.{morpheme_answer}
+use Rattle.decomposition.specs.Parts.{morpheme_of}
+use Rattle.decomposition.specs.Answers.{morpheme_if, morpheme_answer}
 use Rattle.decomposition.specs.declared.Parts.{Parts}
 use Rattle.decomposition.specs.declared.Morpheme.{Morpheme}
 use Rattle.roots.specs.Lists.{no_candidate}
@@ -53,12 +48,12 @@ use Rattle.roots.specs.declared.RootCandidate.{RootCandidate}
 use Rattle.exports.specs.Codes.{coded, answered, bit, word_code, sheet_code, refusal_code, form_value, progressive_code, origin_number, source_number, origin_code}
 use Rattle.exports.specs.Read.{number_of, value_of, found_of, negative_of, main_end_of, lemma_len_of, lemma_at_of, origin_of, source_of, origin_at, source_at, row_at, has_bit, parts_at, candidate_at, decomposition_at}
 use Rattle.exports.specs.Rows.{four_bytes, row_bytes, row_width, each, rows_filled, readings_if, readings_filled}
-use Rattle.exports.specs.Filled.{parts_bytes, morpheme_bytes, candidate_bytes, stored, decompose_if, decompose_filled, candidates_if, candidates_filled}
+use Rattle.exports.specs.Filled.{parts_bytes, morpheme_bytes, candidate_bytes, decompose_if, decompose_filled, candidates_if, candidates_filled}
 use Rattle.exports.proofs.Bounds.{SmallForm, answer_small}
 use Rattle.exports.proofs.Widths.{rows_long}
-use Rattle.exports.proofs.Put.{both, stored_long, answer_inputs}
+use Rattle.exports.proofs.Put.{both, stored_long}
 use Rattle.exports.proofs.Enough.{two_prefixes, four_segments, given_paths}
-use Rattle.exports.proofs.Places.{Full, FullRow, Every, answer_full, roots_full}
+use Rattle.exports.proofs.Places.{Full, FullRow, Every, morpheme_full, roots_full}
 
 -- the number of a code and the place above it, 0 where there is none
 coded_read : (n : ℕ) (places : List ℕ) → n < 256 → (number_of (coded (n ∷ places)) ≡ n) × (value_of (coded (n ∷ places)) ≡ get_or places 0 0)
@@ -77,14 +72,14 @@ pub answer_read : (value : ℕ) → (number_of (answered value) ≡ 0) × (value
 answer_read value = (omega arith, omega arith)
 
 -- the same of what the checks of a word and of a sheet give: 0 for accepted ones
-inputs_read : (i : Inputs) → (number_of (coded (numbers_given i)) ≡ get_or (numbers_given i) 0 0) × (value_of (coded (numbers_given i)) ≡ get_or (numbers_given i) 1 0)
-inputs_read inputs.Accepted = (refl, refl)
-inputs_read (inputs.Refused r) = refusal_read r
+inputs_read : (i : Result (Unit {0}) Refusal) → (number_of (coded (numbers_given i)) ≡ get_or (numbers_given i) 0 0) × (value_of (coded (numbers_given i)) ≡ get_or (numbers_given i) 1 0)
+inputs_read (Ok _) = (refl, refl)
+inputs_read (Err r) = refusal_read r
 
-pub word_read : (c : WordCheck) → (number_of (word_code c) ≡ get_or (numbers_given (of_word c)) 0 0) × (value_of (word_code c) ≡ get_or (numbers_given (of_word c)) 1 0)
+pub word_read : (c : Result (Unit {0}) WordFault) → (number_of (word_code c) ≡ get_or (numbers_given (of_word c)) 0 0) × (value_of (word_code c) ≡ get_or (numbers_given (of_word c)) 1 0)
 word_read c = inputs_read (of_word c)
 
-pub sheet_read : (c : SheetCheck) → (number_of (sheet_code c) ≡ get_or (numbers_given (by_sheet c)) 0 0) × (value_of (sheet_code c) ≡ get_or (numbers_given (by_sheet c)) 1 0)
+pub sheet_read : (c : Result (Unit {0}) SheetFault) → (number_of (sheet_code c) ≡ get_or (numbers_given (by_sheet c)) 0 0) × (value_of (sheet_code c) ≡ get_or (numbers_given (by_sheet c)) 1 0)
 sheet_read c = inputs_read (by_sheet c)
 
 bit_small : (b : Bool) → bit b ≤ 1
@@ -101,9 +96,9 @@ parts_read : (b m l a : ℕ) → b ≤ 1 → m < 256 → l < 256 →
 parts_read b m l a hb hm hl = (omega arith, omega arith, omega arith, omega arith, omega arith)
 
 -- the main form ends in the word
-abbrev EndsInside : List ℕ → Answer → Type 0
-EndsInside w (answers.Refused r) = Unit {0}
-EndsInside w (answers.Given f) = f.main_end ≤ length w
+abbrev EndsInside : List ℕ → Result Progressive Refusal → Type 0
+EndsInside w (Err r) = Unit {0}
+EndsInside w (Ok f) = f.main_end ≤ length w
 
 form-inside : (w s : List ℕ) (o : Outcome) → (form_of s w o).main_end ≤ length w
 form-inside w s no = omega arith
@@ -113,9 +108,9 @@ answer_inside : (w s : List ℕ) → EndsInside w (answer_of w s)
 unfolding answer_of
 answer_inside w s = by (inputs_of w s)
   where
-    by : (i : Inputs) → EndsInside w (answer_if i w s)
-    by inputs.Accepted = form-inside w s (progressive_of (reply s) w)
-    by (inputs.Refused r) = tt
+    by : (i : Result (Unit {0}) Refusal) → EndsInside w (answer_if i w s)
+    by (Ok _) = form-inside w s (progressive_of (reply s) w)
+    by (Err r) = tt
 
 -- the code reads as the form, which was found
 abbrev pub FormRead : ℕ → Progressive → Type 0
@@ -138,11 +133,11 @@ form_read f e h k =
     (a.0, ap (λ (x : ℕ). x % 2) a.1 ∙ p.0, ap (λ (x : ℕ). x / 2 % 2) a.1 ∙ p.1, ap (λ (x : ℕ). x / 4 % 256) a.1 ∙ p.2, ap (λ (x : ℕ). x / 1024 % 256) a.1 ∙ p.3, ap (λ (x : ℕ). x / 262144) a.1 ∙ p.4)
 
 -- and so for every word and sheet, since answers keep to them
-pub progressive_read : (w s : List ℕ) (f : Progressive) → answer_of w s ≡ answers.Given f → f.found ≡ true → FormRead (progressive_code (answer_of w s)) f
+pub progressive_read : (w s : List ℕ) (f : Progressive) → answer_of w s ≡ Ok f → f.found ≡ true → FormRead (progressive_code (answer_of w s)) f
 progressive_read w s f e t =
-    let n : SmallForm w s (answers.Given f) = subst (SmallForm w s) e (answer_small w s) in
-    let m : EndsInside w (answers.Given f) = subst (EndsInside w) e (answer_inside w s) in
-    subst (λ (a : Answer). FormRead (progressive_code a) f) (sym e) (form_read f t (omega (arith, n, m)) n.2)
+    let n : SmallForm w s (Ok f) = subst (SmallForm w s) e (answer_small w s) in
+    let m : EndsInside w (Ok f) = subst (EndsInside w) e (answer_inside w s) in
+    subst (λ (a : Result Progressive Refusal). FormRead (progressive_code a) f) (sym e) (form_read f t (omega (arith, n, m)) n.2)
 
 -- none was found
 pub no_form_read : (f : Progressive) → f.found ≡ false → answered (form_value f) ≡ 0
@@ -162,9 +157,9 @@ source_small Unknown = omega arith
 
 -- an origin and its source
 pub origin_read : (d : OriginDecision) →
-    (number_of (origin_code (decisions.Decided d)) ≡ 0)
-    × (origin_of (origin_code (decisions.Decided d)) ≡ origin_number d.origin)
-    × (source_of (origin_code (decisions.Decided d)) ≡ source_number d.source)
+    (number_of (origin_code (Ok d)) ≡ 0)
+    × (origin_of (origin_code (Ok d)) ≡ origin_number d.origin)
+    × (source_of (origin_code (Ok d)) ≡ source_number d.source)
 origin_read d =
     let o = origin_small d.origin in
     let s = source_small d.source in
@@ -227,7 +222,7 @@ path_shaped : (w s : List ℕ) (p : Route) → Shaped (row_of (reply s) w p)
 unfolding row_of
 path_shaped w s p = (two_prefixes (reply s) w p, four_segments (reply s) w p, decision-fits (reply s) p.root)
 
-given_shaped : (w s : List ℕ) → said_of w s ≡ said.Listed → Every Shaped (rows_given w s)
+given_shaped : (w s : List ℕ) → said_of w s ≡ Ok tt → Every Shaped (rows_given w s)
 given_shaped w s e =
     let l = (given_paths w s e).1 in
     subst (Every Shaped) l.rows_are (by l.paths)
@@ -237,11 +232,11 @@ given_shaped w s e =
     by (p ∷ ps) = (path_shaped w s p, by ps)
 
 -- each reading of a list that is given and fits in is read back from its row in the buffer, with its root's origin, source and confidence
-pub readings_read : (w s out : List ℕ) → said_of w s ≡ said.Listed → row_width * length (rows_given w s) ≤ length out → (i : ℕ) → i < length (rows_given w s)
+pub readings_read : (w s out : List ℕ) → said_of w s ≡ Ok tt → row_width * length (rows_given w s) ≤ length out → (i : ℕ) → i < length (rows_given w s)
     → row_at (drop (row_width * i) (readings_filled w s out).buffer) ≡ get_or (rows_given w s) i no_row
 unfolding readings_filled
 readings_read w s out e h i l =
-    let f : rows_filled row_width row_bytes (rows_given w s) out ≡ readings_if (said_of w s) (rows_given w s) out = ap (λ (x : Said). readings_if x (rows_given w s) out) (sym e) in
+    let f : rows_filled row_width row_bytes (rows_given w s) out ≡ readings_if (said_of w s) (rows_given w s) out = ap (λ (x : Result (Unit {0}) Refusal). readings_if x (rows_given w s) out) (sym e) in
     let b : each row_bytes (rows_given w s) ++ drop (row_width * length (rows_given w s)) out ≡ (readings_if (said_of w s) (rows_given w s) out).buffer =
     (both f (rows_long row_bytes row_width (length (rows_given w s)) (rows_given w s) out refl _ h refl)).1 in
     ap (λ (xs : List ℕ). row_at (drop (row_width * i) xs)) (sym b)
@@ -304,11 +299,11 @@ pub morpheme_read : (m : Morpheme) (rest : List ℕ) → Full m.parts → decomp
 morpheme_read m rest h = morpheme_is m (parts-back m.parts (origin_number m.origin) 0 0 0 rest h) (origin_back m.origin)
 
 -- each candidate of a list that fits in is read back from its row in the buffer
-pub candidates_read : (w s out : List ℕ) → inputs_of w s ≡ inputs.Accepted → 33 * length (roots_for w s) ≤ length out → (i : ℕ) → i < length (roots_for w s)
+pub candidates_read : (w s out : List ℕ) → inputs_of w s ≡ Ok tt → 33 * length (roots_for w s) ≤ length out → (i : ℕ) → i < length (roots_for w s)
     → candidate_at (drop (33 * i) (candidates_filled w s out).buffer) ≡ get_or (roots_for w s) i no_candidate
 unfolding candidates_filled
 candidates_read w s out e h i l =
-    let f : rows_filled 33 candidate_bytes (roots_for w s) out ≡ candidates_if (inputs_of w s) (roots_for w s) out = ap (λ (x : Inputs). candidates_if x (roots_for w s) out) (sym e) in
+    let f : rows_filled 33 candidate_bytes (roots_for w s) out ≡ candidates_if (inputs_of w s) (roots_for w s) out = ap (λ (x : Result (Unit {0}) Refusal). candidates_if x (roots_for w s) out) (sym e) in
     let b : each candidate_bytes (roots_for w s) ++ drop (33 * length (roots_for w s)) out ≡ (candidates_if (inputs_of w s) (roots_for w s) out).buffer =
     (both f (rows_long candidate_bytes 33 (length (roots_for w s)) (roots_for w s) out refl _ h refl)).1 in
     ap (λ (xs : List ℕ). candidate_at (drop (33 * i) xs)) (sym b)
@@ -316,12 +311,12 @@ candidates_read w s out e h i l =
     (roots_for w s) i (drop (33 * length (roots_for w s)) out) (roots_full w s) l
 
 -- the decomposition of an accepted word and sheet is read back from a buffer that is long enough
-pub decomposition_read : (w s out : List ℕ) → inputs_of w s ≡ inputs.Accepted → 33 ≤ length out
-    → decomposition_at (decompose_filled w s out).buffer ≡ (morpheme_answer w s).morpheme
-unfolding decompose_filled
+pub decomposition_read : (w s out : List ℕ) → inputs_of w s ≡ Ok tt → 33 ≤ length out
+    → Ok (decomposition_at (decompose_filled w s out).buffer) ≡ morpheme_answer w s
+unfolding decompose_filled morpheme_answer
 decomposition_read w s out e h =
-    let m = (morpheme_answer w s).morpheme in
-    let i : (morpheme_answer w s).inputs ≡ inputs.Accepted = answer_inputs w s (morpheme_answer w s) refl ∙ e in
-    let f : stored 0 (morpheme_bytes m) out ≡ decompose_if (morpheme_answer w s).inputs m out = ap (λ (x : Inputs). decompose_if x m out) (sym i) in
-    let b : morpheme_bytes m ++ drop 33 out ≡ (decompose_if (morpheme_answer w s).inputs m out).buffer = (both f (stored_long 0 (morpheme_bytes m) out _ h refl)).1 in
-    ap decomposition_at (sym b) ∙ morpheme_read m (drop 33 out) (answer_full w s)
+    let m = morpheme_of (reply s) w in
+    let f : decompose_if (Ok m) out ≡ decompose_if (morpheme_if (inputs_of w s) w s) out = ap (λ (x : Result (Unit {0}) Refusal). decompose_if (morpheme_if x w s) out) (sym e) in
+    let b : morpheme_bytes m ++ drop 33 out ≡ (decompose_if (morpheme_if (inputs_of w s) w s) out).buffer = (both f (stored_long 0 (morpheme_bytes m) out _ h refl)).1 in
+    ap (λ (xs : List ℕ). Ok (decomposition_at xs)) (sym b) ∙ ap (λ (x : Morpheme). Ok x) (morpheme_read m (drop 33 out) (morpheme_full (reply s) w))
+    ∙ ap (λ (x : Result (Unit {0}) Refusal). morpheme_if x w s) (sym e)

@@ -1,5 +1,7 @@
 -- How long a report is at most, and how many findings a sheet has: both fit their bits of a code. The proofs of references.rt cite these.
 -- Assumes nothing.
+use Rattle.std.specs.Prelude.{Err, Ok, Result}
+use Rattle.refusals.specs.declared.Refusal.{Refusal}
 use Prim.Native.Nat.{ℕ, ◌≤◌}
 use native.Mathlib.Omega.{arith}
 use mathlib.Core.Path.{◌≡◌, refl, sym, subst}
@@ -9,14 +11,12 @@ use lib.ListN.{length}
 use lib.Dec.{leb}
 use Rattle.runs.specs.Runs.{pick}
 use Rattle.refusals.specs.Refusals.{room_for}
-use Rattle.refusals.specs.declared.Written.{Written}
-use Rattle.refusals.specs.declared.Written.TheVariants as written
 use Rattle.refusals.specs.declared.Refusal.TheVariants.{OutputTooShort}
 use Rattle.sheet.specs.Limits.{sheet_limit}
 use Rattle.sheet.specs.Inputs.{by_sheet}
 use Rattle.sheet.specs.Lines.{starts_of, sheet_check}
-use Rattle.sheet.specs.declared.check.SheetCheck.{SheetCheck}
-use Rattle.sheet.specs.declared.check.SheetCheck.TheVariants as sheets
+use Rattle.sheet.specs.declared.check.SheetFault.{SheetFault}
+use Rattle.sheet.specs.declared.check.SheetFault.TheVariants as sheets
 use Rattle.sheet.proofs.Accepted.{accepted-short}
 use Rattle.sheet.proofs.Faults.{Inside, fault-inside}
 use Rattle.lookup.proofs.Count.{few-lines}
@@ -30,24 +30,24 @@ use Rattle.exports.specs.Codes.{most_written, Small}
 room_small : (size room : ℕ) → size ≤ most_written → Small (room_for size room)
 room_small size room h = by (leb size room)
   where
-    by : (b : Bool) → Small (pick b (written.Wrote size) (written.Refused OutputTooShort))
+    by : (b : Bool) → Small (pick b (Ok size) (Err OutputTooShort))
     by true = h
     by false = tt
 
 module _ (s : List ℕ) where
-  by_check : (size room : ℕ) → (sheet_check s ≡ sheets.Accepted → size ≤ most_written) → (c : SheetCheck) → sheet_check s ≡ c → Inside sheet_limit c → Small (answered_by (by_sheet c) size room)
-  by_check size room h sheets.Accepted e i = room_small size room (h e)
-  by_check size room h sheets.TooLong e i = tt
-  by_check size room h (sheets.NoForm at) e i = (i, tt)
-  by_check size room h (sheets.NotAbove at) e i = (i, tt)
+  by_check : (size room : ℕ) → (sheet_check s ≡ Ok tt → size ≤ most_written) → (c : Result (Unit {0}) SheetFault) → sheet_check s ≡ c → Inside sheet_limit c → Small (answered_by (by_sheet c) size room)
+  by_check size room h (Ok _) e i = room_small size room (h e)
+  by_check size room h (Err sheets.TooLong) e i = tt
+  by_check size room h (Err (sheets.NoForm at)) e i = (i, tt)
+  by_check size room h (Err (sheets.NotAbove at)) e i = (i, tt)
 
-  pub report_small : (out : List ℕ) (w : Written) → w ≡ report_outcome s out → Small w
+  pub report_small : (out : List ℕ) (w : Result ℕ Refusal) → w ≡ report_outcome s out → Small w
   unfolding report_outcome
   report_small out w e =
       subst Small (sym e)
       (by_check (length (report_text s)) (length out) (λ h. omega (arith, report_size s h, accepted-short s h)) (sheet_check s) refl (fault-inside s))
 
-  pub found_small : (out : List ℕ) (w : Written) → w ≡ found_outcome s out → Small w
+  pub found_small : (out : List ℕ) (w : Result ℕ Refusal) → w ≡ found_outcome s out → Small w
   unfolding found_outcome
   found_small out w e =
       subst Small (sym e)

@@ -10,8 +10,7 @@ use Rattle.runs.specs.Runs.{pick}
 use Rattle.tables.specs.Origins.{origin_of}
 use Rattle.tables.specs.declared.origins.Origin.{Origin}
 use Rattle.tables.specs.declared.origins.Origin.TheVariants.{Tatsam, Tadbhav, Deshaj, Aagantuk}
-use Rattle.tables.specs.declared.origins.OriginFound.{OriginFound}
-use Rattle.tables.specs.declared.origins.OriginFound.TheVariants.{Listed, Unlisted}
+use Rattle.std.proofs.Common.{Option, Some, None}
 use Rattle.sheet.specs.Replies.{Ask}
 use Rattle.origin.specs.Marks.{heuristic_of}
 use Rattle.origin.specs.Decisions.{by_word, by_stem, no_evidence, known_by, known_stem, or_by_table, or_by_kosha, by_marks, decision_of}
@@ -26,9 +25,9 @@ picked : (b : Bool) (d : OriginDecision) → Sure d → Sure (pick b no_evidence
 picked true d h = of_bits-fits binary32 0x00000000
 picked false d h = h
 
-by_table : (f : OriginFound) (d : OriginDecision) → Sure d → Sure (or_by_table f d)
-by_table (Listed o) d h = of_bits-fits binary32 0x3F800000
-by_table Unlisted d h = h
+by_table : (f : Option Origin) (d : OriginDecision) → Sure d → Sure (or_by_table f d)
+by_table (Some o) d h = of_bits-fits binary32 0x3F800000
+by_table None d h = h
 
 by_kosha : (f : Float) (k : Known) (d : OriginDecision) → T (fits binary32 f) → Sure d → Sure (or_by_kosha f k d)
 by_kosha f (Tagged o) d s h = s

@@ -1,5 +1,6 @@
 -- Laws of the word put back together from a row: what the word's check gives, how long the text is, and that every row of the word's list
 -- gives the word. Assumes nothing.
+use Rattle.std.specs.Prelude.{Err, Ok, Result}
 use Prim.Native.Nat.{ℕ, zero, suc, ◌*◌, ◌≤◌, ◌<◌}
 use native.Mathlib.Nat.{not-suc-le-zero, le_of_suc-le-suc}
 use native.Mathlib.Omega.{arith}
@@ -12,23 +13,19 @@ use borrow.Author.Tests.{lt-ltb, le-ltb}
 use Rattle.runs.specs.Runs.{pick}
 use Rattle.refusals.specs.declared.Refusal.{Refusal}
 use Rattle.refusals.specs.declared.Refusal.TheVariants.{OutputTooShort}
-use Rattle.refusals.specs.declared.Written.{Written}
-use Rattle.refusals.specs.declared.Written.TheVariants as written
-use Rattle.text.specs.Word.{word_limit, word_check}
-use Rattle.text.specs.declared.word.WordCheck.{WordCheck}
-use Rattle.text.specs.declared.word.WordCheck.TheVariants as words
-use Rattle.sheet.specs.Inputs.{of_word, by_word_then, Placed}
-use Rattle.sheet.specs.declared.inputs.Inputs.{Inputs}
-use Rattle.sheet.specs.declared.inputs.Inputs.TheVariants as inputs
-use Rattle.decomposition.proofs.Short.{word-short}
-use Rattle.lookup.proofs.Readied.{word-said}
+use Rattle.text.specs.Word.{word_limit, word_check, refusal_of}
+use Rattle.text.specs.declared.word.WordFault.{WordFault}
+use Rattle.text.specs.declared.word.WordFault.TheVariants as words
+use Rattle.sheet.specs.Inputs.{of_word, Placed}
 use Rattle.ranking.specs.Stored.{reading_width, reading_at}
+use Rattle.sheet.specs.Limits.{sheet_limit}
 use Rattle.sheet.specs.Lines.{sheet_check}
-use Rattle.sheet.specs.declared.check.SheetCheck.TheVariants as sheets
+use Rattle.sheet.specs.Lines as sheets
+use Rattle.sheet.specs.declared.check.SheetFault.{SheetFault}
+use Rattle.sheet.specs.declared.check.SheetFault.TheVariants as faults
+use Rattle.sheet.proofs.Faults.{Inside, fault-inside}
 use Rattle.ranking.specs.Places.{no_row}
 use Rattle.ranking.specs.declared.Classified.{Classified}
-use Rattle.analysis.specs.declared.entry.Said.{Said}
-use Rattle.analysis.specs.declared.entry.Said.TheVariants as said
 use Rattle.analysis.specs.Answers.{said_of, rows_given}
 use Rattle.analysis.proofs.Promises.{all_recomposed}
 use Rattle.paths.specs.Recomposed.{surface_text, Recomposed, All}
@@ -43,32 +40,28 @@ use Rattle.exports.proofs.Widths.{each-length, rows_long}
 use Rattle.exports.proofs.Readable.{readings_read}
 use Rattle.exports.specs.Surface.{reading_in, surface_if, surface_filled}
 
-abbrev PlacedIn : Inputs → Type 0
-PlacedIn inputs.Accepted = Unit {0}
-PlacedIn (inputs.Refused r) = Placed r
+-- what the check of a word says alone
+module _ (w : List ℕ) where
+  pub word_fault : (f : WordFault) → word_check w ≡ Err f → Err (refusal_of f) ≡ of_word (word_check w)
+  word_fault f e = sym (ap of_word e)
 
--- what the check of a word gives, x, alone
-module _ (w : List ℕ) (x : Inputs) (e : x ≡ by_word_then (word_check w) inputs.Accepted) where
-  pub by_word : x ≡ of_word (word_check w)
-  by_word = e ∙ by (word_check w)
-    where
-      by : (c : WordCheck) → by_word_then c inputs.Accepted ≡ of_word c
-      by words.Accepted = refl
-      by words.TooLong = refl
-      by words.NotUtf8 = refl
-      by words.Forbidden = refl
+  pub word_fine : word_check w ≡ Ok tt → Ok tt ≡ of_word (word_check w)
+  word_fine e = sym (ap of_word e)
 
-  pub word-placed : (r : Refusal) → x ≡ inputs.Refused r → Placed r
-  word-placed r f = subst PlacedIn (sym by_word ∙ f) (by (word_check w))
-    where
-      by : (c : WordCheck) → PlacedIn (of_word c)
-      by words.Accepted = tt
-      by words.TooLong = tt
-      by words.NotUtf8 = tt
-      by words.Forbidden = tt
+-- no refusal of a word has a place
+pub word-placed : (f : WordFault) → Placed (refusal_of f)
+word-placed words.TooLong = tt
+word-placed words.NotUtf8 = tt
+word-placed words.Forbidden = tt
 
-  pub word_is_short : x ≡ inputs.Accepted → length w ≤ word_limit
-  word_is_short f = word-short w (word-said w x e f)
+-- a faulty line begins inside the sheet
+pub sheet-placed : (s : List ℕ) (f : SheetFault) → sheet_check s ≡ Err f → Placed (sheets.refusal_of f)
+sheet-placed s f e = by f (subst (Inside sheet_limit) e (fault-inside s))
+  where
+    by : (g : SheetFault) → Inside sheet_limit (Err g) → Placed (sheets.refusal_of g)
+    by faults.TooLong i = tt
+    by (faults.NoForm at) i = (i, tt)
+    by (faults.NotAbove at) i = (i, tt)
 
 -- a row that is long enough, and one that is not
 pub row_long : (row : List ℕ) → reading_width ≤ length row → reading_at row ≡ reading_in row
@@ -78,20 +71,20 @@ pub row-short : (row : List ℕ) → length row < reading_width → reading_at (
 row-short row h = ap (λ (b : Bool). reading_at (pick b (replicate reading_width 0) row)) (sym (lt-ltb (length row) reading_width h))
 
 -- the text fits the code
-pub surface_small : (w row out : List ℕ) (y : Written) → length w ≤ word_limit → y ≡ written_of (surface_text w (reading_in row)) out → Small y
+pub surface_small : (w row out : List ℕ) (y : Result ℕ Refusal) → length w ≤ word_limit → y ≡ written_of (surface_text w (reading_in row)) out → Small y
 surface_small w row out y h e = subst Small (sym e) (by (leb (length text) (length out)) (surface_size w (reading_in row) h refl refl))
   where
     text : List ℕ
     text = surface_text w (reading_in row)
 
-    by : (b : Bool) → length text ≤ listing_room → Small (pick b (written.Wrote (length text)) (written.Refused OutputTooShort))
+    by : (b : Bool) → length text ≤ listing_room → Small (pick b (Ok (length text)) (Err OutputTooShort))
     by true n = omega arith
     by false n = tt
 
 -- what is done, by what is said of the word
-pub surface_is : (w row out : List ℕ) (x : Inputs) → x ≡ of_word (word_check w) → surface_if x (surface_text w (reading_in row)) out ≡ surface_filled w row out
+pub surface_is : (w row out : List ℕ) (x : Result (Unit {0}) Refusal) → x ≡ of_word (word_check w) → surface_if x (surface_text w (reading_in row)) out ≡ surface_filled w row out
 unfolding surface_filled
-surface_is w row out x e = ap (λ (i : Inputs). surface_if i (surface_text w (reading_in row)) out) e
+surface_is w row out x e = ap (λ (i : Result (Unit {0}) Refusal). surface_if i (surface_text w (reading_in row)) out) e
 
 -- every element, by its place
 all_at : {A : Type 0} (P : A → Type 0) (xs : List A) (i : ℕ) (d : A) → All P xs → i < length xs → P (get_or xs i d)
@@ -100,7 +93,7 @@ all_at P (x ∷ xs) zero d h l = h.0
 all_at P (x ∷ xs) (suc i) d h l = all_at P xs i d h.1 (le_of_suc-le-suc l)
 
 -- each row that `yunthirel_readings` stores for a word gives the word
-module _ (w s out : List ℕ) (aw : word_check w ≡ words.Accepted) (ah : sheet_check s ≡ sheets.Accepted) (given : said_of w s ≡ said.Listed)
+module _ (w s out : List ℕ) (aw : word_check w ≡ Ok tt) (ah : sheet_check s ≡ Ok tt) (given : said_of w s ≡ Ok tt)
     (room : row_width * length (rows_given w s) ≤ length out) (i : ℕ) (inside : i < length (rows_given w s)) where
   abbrev stored : List ℕ
   stored = drop (row_width * i) (readings_filled w s out).buffer
@@ -108,7 +101,7 @@ module _ (w s out : List ℕ) (aw : word_check w ≡ words.Accepted) (ah : sheet
   stored_long : reading_width ≤ length stored
   unfolding readings_filled
   stored_long =
-      let f : rows_filled row_width row_bytes (rows_given w s) out ≡ readings_if (said_of w s) (rows_given w s) out = ap (λ (x : Said). readings_if x (rows_given w s) out) (sym given) in
+      let f : rows_filled row_width row_bytes (rows_given w s) out ≡ readings_if (said_of w s) (rows_given w s) out = ap (λ (x : Result (Unit {0}) Refusal). readings_if x (rows_given w s) out) (sym given) in
       let b : each row_bytes (rows_given w s) ++ drop (row_width * length (rows_given w s)) out ≡ (readings_if (said_of w s) (rows_given w s) out).buffer =
       (both f (rows_long row_bytes row_width (length (rows_given w s)) (rows_given w s) out refl _ room refl)).1 in
       let m = ap (length {A = ℕ}) (sym b) ∙ length-append (each row_bytes (rows_given w s)) (drop (row_width * length (rows_given w s)) out) in

@@ -1,32 +1,19 @@
 -- How the static library's functions give their answers as numbers: the lowest byte of a code is the number of a refusal, 0 for an
 -- answer; above it stand the place that comes with a refusal, or the answer's value. Assumes nothing.
-use Rattle.std.specs.Prelude.{ℕ, ◌+◌, ◌*◌, ◌≤◌, Bool, true, false, List, [], ◌∷◌, Float}
+use Rattle.origin.specs.declared.OriginDecision.{OriginDecision}
+use Rattle.std.specs.Prelude.{ℕ, ◌+◌, ◌*◌, ◌≤◌, Bool, true, false, List, [], ◌∷◌, Float, Err, Ok, Result}
 use Rattle.runs.specs.Runs.{pick}
 use Rattle.refusals.specs.Refusals.{numbers_of}
 use Rattle.refusals.specs.declared.Refusal.{Refusal}
-use Rattle.refusals.specs.declared.Written.{Written}
-use Rattle.refusals.specs.declared.Written.TheVariants as written
-use Rattle.text.specs.declared.word.WordCheck.{WordCheck}
+use Rattle.text.specs.declared.word.WordFault.{WordFault}
 use Rattle.tables.specs.declared.origins.Origin.{Origin}
 use Rattle.tables.specs.declared.origins.Origin.TheVariants.{Tatsam, Tadbhav, Deshaj, Aagantuk}
 use Rattle.sheet.specs.Inputs.{of_word, by_sheet, numbers_given, Placed}
-use Rattle.sheet.specs.declared.check.SheetCheck.{SheetCheck}
+use Rattle.sheet.specs.declared.check.SheetFault.{SheetFault}
 use Rattle.progressive.specs.declared.find.Progressive.{Progressive}
-use Rattle.progressive.specs.declared.entry.Answer.{Answer}
-use Rattle.progressive.specs.declared.entry.Answer.TheVariants as answers
-use Rattle.progressive.specs.declared.entry.Supported.{Supported}
-use Rattle.progressive.specs.declared.entry.Supported.TheVariants as supports
-use Rattle.analysis.specs.declared.entry.Has.{Has}
-use Rattle.analysis.specs.declared.entry.Has.TheVariants as has
-use Rattle.analysis.specs.declared.entry.Visits.{Visits}
-use Rattle.analysis.specs.declared.entry.Visits.TheVariants as visits
-use Rattle.roots.specs.declared.entries.KnownAnswer.{KnownAnswer}
-use Rattle.roots.specs.declared.entries.KnownAnswer.TheVariants as known
 use Rattle.origin.specs.Decisions.{none}
 use Rattle.origin.specs.declared.OriginSource.{OriginSource}
 use Rattle.origin.specs.declared.OriginSource.TheVariants.{Override, Kosha, Heuristic, Unknown}
-use Rattle.origin.specs.declared.entries.DecisionAnswer.{DecisionAnswer}
-use Rattle.origin.specs.declared.entries.DecisionAnswer.TheVariants as decisions
 
 -- a number alone, or with its place above it; 0 for none
 abbrev pub coded : List ℕ → ℕ
@@ -38,10 +25,10 @@ coded (n ∷ at ∷ more) = n + 256 * at
 abbrev pub answered : ℕ → ℕ
 answered value = 256 * value
 
-abbrev pub word_code : WordCheck → ℕ
+abbrev pub word_code : Result (Unit {0}) WordFault → ℕ
 word_code c = coded (numbers_given (of_word c))
 
-abbrev pub sheet_code : SheetCheck → ℕ
+abbrev pub sheet_code : Result (Unit {0}) SheetFault → ℕ
 sheet_code c = coded (numbers_given (by_sheet c))
 
 abbrev pub refusal_code : Refusal → ℕ
@@ -57,40 +44,40 @@ bit false = 0
 abbrev pub form_value : Progressive → ℕ
 form_value f = pick f.found (1 + 2 * bit f.negative + 4 * f.main_end + 1024 * f.lemma_len + 262144 * f.lemma_at) 0
 
-abbrev pub progressive_code : Answer → ℕ
-progressive_code (answers.Refused r) = refusal_code r
-progressive_code (answers.Given form) = answered (form_value form)
+abbrev pub progressive_code : Result Progressive Refusal → ℕ
+progressive_code (Err r) = refusal_code r
+progressive_code (Ok form) = answered (form_value form)
 
 -- yes or no
-abbrev pub supported_code : Supported → ℕ
-supported_code (supports.Refused r) = refusal_code r
-supported_code (supports.Given b) = answered (bit b)
+abbrev pub supported_code : Result Bool Refusal → ℕ
+supported_code (Err r) = refusal_code r
+supported_code (Ok b) = answered (bit b)
 
-abbrev pub has_code : Has → ℕ
-has_code (has.Given b) = answered (bit b)
-has_code (has.Refused r) = refusal_code r
+abbrev pub has_code : Result Bool Refusal → ℕ
+has_code (Ok b) = answered (bit b)
+has_code (Err r) = refusal_code r
 
-abbrev pub known_code : KnownAnswer → ℕ
-known_code (known.Known b) = answered (bit b)
-known_code (known.Refused r) = refusal_code r
+abbrev pub known_code : Result Bool Refusal → ℕ
+known_code (Ok b) = answered (bit b)
+known_code (Err r) = refusal_code r
 
 -- the pieces visited
-abbrev pub visits_code : Visits → ℕ
-visits_code (visits.Given n) = answered n
-visits_code (visits.Refused r) = refusal_code r
+abbrev pub visits_code : Result ℕ Refusal → ℕ
+visits_code (Ok n) = answered n
+visits_code (Err r) = refusal_code r
 
 -- how much was written, or why nothing was
-abbrev pub written_code : Written → ℕ
-written_code (written.Wrote n) = answered n
-written_code (written.Refused r) = refusal_code r
+abbrev pub written_code : Result ℕ Refusal → ℕ
+written_code (Ok n) = answered n
+written_code (Err r) = refusal_code r
 
 -- the bytes or numbers written, or the place of the faulty line, are small enough for the code
 abbrev pub most_written : ℕ
 most_written = 1048576
 
-abbrev pub Small : Written → Type 0
-Small (written.Wrote n) = n ≤ most_written
-Small (written.Refused r) = Placed r
+abbrev pub Small : Result ℕ Refusal → Type 0
+Small (Ok n) = n ≤ most_written
+Small (Err r) = Placed r
 
 abbrev pub origin_number : Origin → ℕ
 origin_number Tatsam = 0
@@ -105,11 +92,11 @@ source_number Heuristic = 2
 source_number Unknown = 3
 
 -- the value of a decision: the origin in bits 0 and 1, the source in bits 2 and 3
-abbrev pub origin_code : DecisionAnswer → ℕ
-origin_code (decisions.Decided d) = answered (origin_number d.origin + 4 * source_number d.source)
-origin_code (decisions.Refused r) = refusal_code r
+abbrev pub origin_code : Result OriginDecision Refusal → ℕ
+origin_code (Ok d) = answered (origin_number d.origin + 4 * source_number d.source)
+origin_code (Err r) = refusal_code r
 
 -- how surely the origin is known; 0.0 for a refused word or sheet
-abbrev pub confidence_of : DecisionAnswer → Float
-confidence_of (decisions.Decided d) = d.confidence
-confidence_of (decisions.Refused r) = none
+abbrev pub confidence_of : Result OriginDecision Refusal → Float
+confidence_of (Ok d) = d.confidence
+confidence_of (Err r) = none

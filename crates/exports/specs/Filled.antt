@@ -1,11 +1,10 @@
 -- What the exported functions on decompositions and root candidates store in a lent buffer, and what they hand back: the code of a
 -- refusal, 8 for a buffer that is too short, or an answer's value. Assumes nothing.
-use Rattle.std.specs.Prelude.{ℕ, ◌+◌, ◌*◌, ◌/◌, ◌%◌, List, ◌∷◌, ◌++◌, length, drop, ltb}
+use Rattle.refusals.specs.declared.Refusal.{Refusal}
+use Rattle.std.specs.Prelude.{ℕ, ◌+◌, ◌*◌, ◌/◌, ◌%◌, List, ◌∷◌, ◌++◌, length, drop, ltb, Err, Ok, Result}
 use Rattle.runs.specs.Runs.{pick}
 use Rattle.refusals.specs.declared.Refusal.TheVariants.{OutputTooShort}
 use Rattle.sheet.specs.Inputs.{inputs_of}
-use Rattle.sheet.specs.declared.inputs.Inputs.{Inputs}
-use Rattle.sheet.specs.declared.inputs.Inputs.TheVariants as inputs
 use Rattle.decomposition.specs.declared.Parts.{Parts}
 use Rattle.decomposition.specs.declared.Morpheme.{Morpheme}
 use Rattle.decomposition.specs.Answers.{morpheme_answer}
@@ -35,20 +34,20 @@ abbrev pub stored : ℕ → List ℕ → List ℕ → Filled
 stored code bytes out =
     pick (ltb (length out) filled_bytes) (record { code = refusal_code OutputTooShort; buffer = out }) (record { code = code; buffer = bytes ++ drop filled_bytes out })
 
-abbrev pub decompose_if : Inputs → Morpheme → List ℕ → Filled
-decompose_if inputs.Accepted m out = stored 0 (morpheme_bytes m) out
-decompose_if (inputs.Refused r) m out = record { code = refusal_code r; buffer = out }
+abbrev pub decompose_if : Result Morpheme Refusal → List ℕ → Filled
+decompose_if (Ok m) out = stored 0 (morpheme_bytes m) out
+decompose_if (Err r) out = record { code = refusal_code r; buffer = out }
 
 -- what `yunthirel_decompose` does
 unfoldable pub decompose_filled : List ℕ → List ℕ → List ℕ → Filled
-decompose_filled word sheet out = decompose_if (morpheme_answer word sheet).inputs (morpheme_answer word sheet).morpheme out
+decompose_filled word sheet out = decompose_if (morpheme_answer word sheet) out
 
 abbrev pub candidate_width : ℕ
 candidate_width = filled_bytes
 
-abbrev pub candidates_if : Inputs → List RootCandidate → List ℕ → Filled
-candidates_if inputs.Accepted rows out = rows_filled candidate_width candidate_bytes rows out
-candidates_if (inputs.Refused r) rows out = record { code = refusal_code r; buffer = out }
+abbrev pub candidates_if : Result (Unit {0}) Refusal → List RootCandidate → List ℕ → Filled
+candidates_if (Ok _) rows out = rows_filled candidate_width candidate_bytes rows out
+candidates_if (Err r) rows out = record { code = refusal_code r; buffer = out }
 
 -- what `yunthirel_candidates` does
 unfoldable pub candidates_filled : List ℕ → List ℕ → List ℕ → Filled

@@ -1,12 +1,11 @@
 -- Rows of bytes, stored one after the other in a lent buffer, and the rows of the list of readings. Assumes nothing.
-use Rattle.std.specs.Prelude.{ℕ, ◌*◌, ◌/◌, ◌%◌, List, [], ◌∷◌, ◌++◌, length, drop, ltb}
+use Rattle.refusals.specs.declared.Refusal.{Refusal}
+use Rattle.std.specs.Prelude.{ℕ, ◌*◌, ◌/◌, ◌%◌, List, [], ◌∷◌, ◌++◌, length, drop, ltb, Err, Ok, Result}
 use Rattle.std.specs.Float.{binary32}
 use Rattle.std.specs.Float.Ieee.{to_bits}
 use Rattle.runs.specs.Runs.{pick}
 use Rattle.ranking.specs.declared.Classified.{Classified}
 use Rattle.ranking.specs.Stored.{reading_bytes}
-use Rattle.analysis.specs.declared.entry.Said.{Said}
-use Rattle.analysis.specs.declared.entry.Said.TheVariants as said
 use Rattle.analysis.specs.Answers.{said_of, rows_given}
 use Rattle.refusals.specs.declared.Refusal.TheVariants.{OutputTooShort}
 use Rattle.exports.specs.Codes.{answered, refusal_code, origin_number, source_number}
@@ -40,9 +39,9 @@ rows_filled width bytes rows out =
     (record { code = refusal_code OutputTooShort; buffer = out })
     (record { code = answered (length rows); buffer = each bytes rows ++ drop (width * length rows) out })
 
-abbrev pub readings_if : Said → List Classified → List ℕ → Filled
-readings_if said.Listed rows out = rows_filled row_width row_bytes rows out
-readings_if (said.Refused r) rows out = record { code = refusal_code r; buffer = out }
+abbrev pub readings_if : Result (Unit {0}) Refusal → List Classified → List ℕ → Filled
+readings_if (Ok _) rows out = rows_filled row_width row_bytes rows out
+readings_if (Err r) rows out = record { code = refusal_code r; buffer = out }
 
 -- what `yunthirel_readings` does
 unfoldable pub readings_filled : List ℕ → List ℕ → List ℕ → Filled

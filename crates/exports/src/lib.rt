@@ -13,17 +13,17 @@ ghost use Rattle.roots.specs.Answers.{known_answer};
 ghost use Rattle.listing.specs.Printed.{outcome_of, left_of};
 ghost use Rattle.exports.specs.Codes.{answered, word_code, sheet_code, refusal_code, bit, form_value, progressive_code, supported_code, has_code, known_code, Small, written_code, origin_number, source_number, origin_code, confidence_of};
 
-use analysis::entry::{Has, has_supported_analysis};
+use analysis::entry::has_supported_analysis;
 use listing::entry::write_readings;
-use origin::entries::{DecisionAnswer, classify_with_provenance};
+use origin::entries::classify_with_provenance;
 use origin::{OriginDecision, OriginSource};
-use progressive::entry::{Answer, Supported, analyze_progressive, has_supported_progressive_form};
+use progressive::entry::{analyze_progressive, has_supported_progressive_form};
 use progressive::find::Progressive;
-use refusals::{Numbers, Refusal, Written, numbers_of};
-use roots::entries::{KnownAnswer, has_known_root};
-use sheet::check::{SheetCheck, check_sheet};
+use refusals::Refusal;
+use roots::entries::has_known_root;
+use sheet::check::check_sheet;
 use tables::origins::Origin;
-use text::word::{WordCheck, check_word};
+use text::word::check_word;
 
 pub mod edits;
 pub mod parts;
@@ -39,10 +39,10 @@ pub(crate) fn refusal_code(refusal: Refusal) -> u64
     requires { Placed refusal }
     ensures { result ≡ refusal_code refusal }
 {
-    let numbers = numbers_of(refusal);
-    match numbers {
-        Numbers::Number(n) => n as u64,
-        Numbers::Placed(n, at) => (n as u64) + 256 * (at as u64),
+    let number = refusal.number() as u64;
+    match refusal.place() {
+        None => number,
+        Some(at) => number + 256 * (at as u64),
     }
 }
 
@@ -51,12 +51,9 @@ pub(crate) fn refusal_code(refusal: Refusal) -> u64
 pub extern "C" fn yunthirel_check_word(word: &[u8]) -> u64
     ensures { result ≡ word_code (word_check word.now) }
 {
-    let answer = check_word(word);
-    match answer {
-        WordCheck::Accepted => 0,
-        WordCheck::TooLong => refusal_code(Refusal::WordTooLong),
-        WordCheck::NotUtf8 => refusal_code(Refusal::WordNotUtf8),
-        WordCheck::Forbidden => refusal_code(Refusal::WordForbidden),
+    match check_word(word) {
+        Ok(()) => 0,
+        Err(fault) => refusal_code(Refusal::from(fault)),
     }
 }
 
@@ -65,12 +62,9 @@ pub extern "C" fn yunthirel_check_word(word: &[u8]) -> u64
 pub extern "C" fn yunthirel_check_sheet(sheet: &[u8]) -> u64
     ensures { result ≡ sheet_code (sheet_check sheet.now) }
 {
-    let answer = check_sheet(sheet);
-    match answer {
-        SheetCheck::Accepted => 0,
-        SheetCheck::TooLong => refusal_code(Refusal::SheetTooLong),
-        SheetCheck::NoForm(at) => refusal_code(Refusal::SheetNoForm(at)),
-        SheetCheck::NotAbove(at) => refusal_code(Refusal::SheetNotAbove(at)),
+    match check_sheet(sheet) {
+        Ok(()) => 0,
+        Err(fault) => refusal_code(Refusal::from(fault)),
     }
 }
 
@@ -78,10 +72,7 @@ pub extern "C" fn yunthirel_check_sheet(sheet: &[u8]) -> u64
 fn yes_code(yes: bool) -> u64
     ensures { result ≡ answered (bit yes) }
 {
-    if yes {
-        return 256;
-    }
-    0
+    256 * u64::from(yes)
 }
 
 // A form as an answer: 0 for none; else bit 0 of its value, the sign in bit 1, 8 bits for the end of the main form, 8 for the length of
@@ -107,10 +98,9 @@ fn form_code(form: Progressive) -> u64
 pub extern "C" fn yunthirel_progressive(word: &[u8], sheet: &[u8]) -> u64
     ensures { result ≡ progressive_code (answer_of word.now sheet.now) }
 {
-    let answer = analyze_progressive(word, sheet);
-    match answer {
-        Answer::Refused(refusal) => refusal_code(refusal),
-        Answer::Given(form) => form_code(form),
+    match analyze_progressive(word, sheet) {
+        Err(refusal) => refusal_code(refusal),
+        Ok(form) => form_code(form),
     }
 }
 
@@ -119,10 +109,9 @@ pub extern "C" fn yunthirel_progressive(word: &[u8], sheet: &[u8]) -> u64
 pub extern "C" fn yunthirel_has_progressive(word: &[u8], sheet: &[u8]) -> u64
     ensures { result ≡ supported_code (supported_of word.now sheet.now) }
 {
-    let answer = has_supported_progressive_form(word, sheet);
-    match answer {
-        Supported::Refused(refusal) => refusal_code(refusal),
-        Supported::Given(supported) => yes_code(supported),
+    match has_supported_progressive_form(word, sheet) {
+        Err(refusal) => refusal_code(refusal),
+        Ok(supported) => yes_code(supported),
     }
 }
 
@@ -131,10 +120,9 @@ pub extern "C" fn yunthirel_has_progressive(word: &[u8], sheet: &[u8]) -> u64
 pub extern "C" fn yunthirel_has_analysis(word: &[u8], sheet: &[u8]) -> u64
     ensures { result ≡ has_code (has_of word.now sheet.now) }
 {
-    let answer = has_supported_analysis(word, sheet);
-    match answer {
-        Has::Refused(refusal) => refusal_code(refusal),
-        Has::Given(some) => yes_code(some),
+    match has_supported_analysis(word, sheet) {
+        Err(refusal) => refusal_code(refusal),
+        Ok(some) => yes_code(some),
     }
 }
 
@@ -143,21 +131,20 @@ pub extern "C" fn yunthirel_has_analysis(word: &[u8], sheet: &[u8]) -> u64
 pub extern "C" fn yunthirel_has_known_root(word: &[u8], sheet: &[u8]) -> u64
     ensures { result ≡ known_code (known_answer word.now sheet.now) }
 {
-    let answer = has_known_root(word, sheet);
-    match answer {
-        KnownAnswer::Refused(refusal) => refusal_code(refusal),
-        KnownAnswer::Known(known) => yes_code(known),
+    match has_known_root(word, sheet) {
+        Err(refusal) => refusal_code(refusal),
+        Ok(known) => yes_code(known),
     }
 }
 
 // What writing a text gave: how many bytes it has, or the refusal.
-pub(crate) fn written_code(outcome: Written) -> u64
+pub(crate) fn written_code(outcome: Result<usize, Refusal>) -> u64
     requires { Small outcome }
     ensures { result ≡ written_code outcome }
 {
     match outcome {
-        Written::Wrote(n) => 256 * (n as u64),
-        Written::Refused(refusal) => refusal_code(refusal),
+        Ok(n) => 256 * (n as u64),
+        Err(refusal) => refusal_code(refusal),
     }
 }
 
@@ -207,10 +194,9 @@ fn decision_code(decision: OriginDecision) -> u64
 pub extern "C" fn yunthirel_origin(word: &[u8], sheet: &[u8]) -> u64
     ensures { result ≡ origin_code (decision_answer word.now sheet.now) }
 {
-    let answer = classify_with_provenance(word, sheet);
-    match answer {
-        DecisionAnswer::Decided(decision) => decision_code(decision),
-        DecisionAnswer::Refused(refusal) => refusal_code(refusal),
+    match classify_with_provenance(word, sheet) {
+        Ok(decision) => decision_code(decision),
+        Err(refusal) => refusal_code(refusal),
     }
 }
 
@@ -219,9 +205,8 @@ pub extern "C" fn yunthirel_origin(word: &[u8], sheet: &[u8]) -> u64
 pub extern "C" fn yunthirel_confidence(word: &[u8], sheet: &[u8]) -> f32
     ensures { result ≡ confidence_of (decision_answer word.now sheet.now) }
 {
-    let answer = classify_with_provenance(word, sheet);
-    match answer {
-        DecisionAnswer::Decided(decision) => decision.confidence,
-        DecisionAnswer::Refused(_) => 0.0,
+    match classify_with_provenance(word, sheet) {
+        Ok(decision) => decision.confidence,
+        Err(_) => 0.0,
     }
 }

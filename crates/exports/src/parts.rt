@@ -11,7 +11,6 @@ use decomposition::{Morpheme, Parts};
 use refusals::Refusal;
 use roots::entries::lookup_root_candidates;
 use roots::{RootCandidate, Roots};
-use sheet::inputs::Inputs;
 use tables::origins::Origin;
 
 // Parts and four bytes more, at the front of the buffer.
@@ -61,10 +60,7 @@ fn put_parts(p: Parts, a: u8, b: u8, c: u8, d: u8, out: &mut [u8])
 fn bit_of(b: bool) -> u8
     ensures { (result ≡ bit b) × (result ≤ 1) }
 {
-    if b {
-        return 1;
-    }
-    0
+    u8::from(b)
 }
 
 pub(crate) fn origin_byte(origin: Origin) -> u8
@@ -92,12 +88,8 @@ fn put_candidates(list: Roots, n: usize, out: &mut [u8])
     requires { (n ≤ root_limit) × (33 * n ≤ length out.old) }
     ensures { out.new ≡ each candidate_bytes (take n list.rows) ++ drop (33 * n) out.old }
 {
-    let mut i: usize = 0;
-    while i < n {
-        let c = list.rows[i];
-        let at = 33 * i;
-        put_candidate(c, &mut out[at..]);
-        i += 1;
+    for i in 0..n {
+        put_candidate(list.rows[i], &mut out[33 * i..]);
     }
 }
 
@@ -122,12 +114,9 @@ pub extern "C" fn yunthirel_candidates(word: &[u8], sheet: &[u8], out: &mut [u8]
     ensures { (result ≡ (candidates_filled word.now sheet.now out.old).code)
         × (out.new ≡ (candidates_filled word.now sheet.now out.old).buffer) }
 {
-    let answer = lookup_root_candidates(word, sheet);
-    let inputs = answer.inputs;
-    let list = answer.roots;
-    match inputs {
-        Inputs::Refused(refusal) => refusal_code(refusal),
-        Inputs::Accepted => put_roots(list, out),
+    match lookup_root_candidates(word, sheet) {
+        Err(refusal) => refusal_code(refusal),
+        Ok(list) => put_roots(list, out),
     }
 }
 
@@ -152,11 +141,8 @@ pub extern "C" fn yunthirel_decompose(word: &[u8], sheet: &[u8], out: &mut [u8])
     ensures { (result ≡ (decompose_filled word.now sheet.now out.old).code)
         × (out.new ≡ (decompose_filled word.now sheet.now out.old).buffer) }
 {
-    let answer = decompose(word, sheet);
-    let inputs = answer.inputs;
-    let m = answer.morpheme;
-    match inputs {
-        Inputs::Refused(refusal) => refusal_code(refusal),
-        Inputs::Accepted => put_morpheme(m, out),
+    match decompose(word, sheet) {
+        Err(refusal) => refusal_code(refusal),
+        Ok(m) => put_morpheme(m, out),
     }
 }

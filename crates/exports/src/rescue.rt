@@ -4,7 +4,8 @@ ghost use Rattle.rescued.specs.Answers.{rescued_of, kept_left, report_left};
 ghost use Rattle.exports.specs.Rescue.{rescued_code, sizes_code, Sized, Fitting};
 
 use crate::refusal_code;
-use rescued::entry::{Rescued, Sizes, rescue_sheet};
+use refusals::Refusal;
+use rescued::entry::{Sizes, rescue_sheet};
 
 // How many bytes were written into each buffer: 24 bits for the kept sheet, and above them those of the report.
 fn sizes_code(sizes: Sizes) -> u64
@@ -15,13 +16,13 @@ fn sizes_code(sizes: Sizes) -> u64
 }
 
 // What the rescue gave, as a number.
-fn rescued_code(outcome: Rescued) -> u64
+fn rescued_code(outcome: Result<Sizes, Refusal>) -> u64
     requires { Fitting outcome }
     ensures { result ≡ rescued_code outcome }
 {
     match outcome {
-        Rescued::Wrote(sizes) => sizes_code(sizes),
-        Rescued::Refused(refusal) => refusal_code(refusal),
+        Ok(sizes) => sizes_code(sizes),
+        Err(refusal) => refusal_code(refusal),
     }
 }
 

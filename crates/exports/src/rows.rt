@@ -1,12 +1,11 @@
 // The list of readings as rows of bytes, stored in a lent buffer one after the other. How a reading lies is said in `ranking::rows`;
 // behind it stand the numbers of its root's origin and of the source, and the bits of the confidence, the low byte first, so that a row
 // lies as a struct of C does.
-ghost use Rattle.std.specs.Prelude.{◌≡◌, ◌++◌, map, ◌≤◌, length, take, drop};
+ghost use Rattle.std.specs.Prelude.{◌≡◌, Ok, ◌++◌, map, ◌≤◌, length, take, drop};
 ghost use Rattle.std.specs.Float.{binary32};
 ghost use Rattle.std.specs.Float.Ieee.{to_bits};
 ghost use Rattle.text.specs.Word.{word_check};
-ghost use Rattle.text.specs.declared.word.WordCheck.TheVariants.{Accepted};
-ghost use Rattle.sheet.specs.Replies.{Indexed, reply};
+ghost use Rattle.lookup.specs.Lexicons.{replies};
 ghost use Rattle.lookup.specs.Starts.{Room};
 ghost use Rattle.ranking.specs.Lists.{list_limit};
 ghost use Rattle.ranking.specs.Kept.{rows_in, kept_bytes};
@@ -18,14 +17,15 @@ use crate::parts::origin_byte;
 use crate::{refusal_code, source_number};
 use analysis::entry::keep_readings;
 use analysis::origins::classify_root;
-use lookup::lines::{first_refusal, prepare_sheet, prepare_word};
+use lookup::lexicon::Lexicon;
+use lookup::lines::check_lines;
 use lookup::starts::Start;
 use origin::OriginSource;
 use ranking::rows::{KEPT, WIDTH, put_reading, row_at};
 use ranking::{Classified, LIMIT};
 use refusals::Refusal;
-use sheet::inputs::Inputs;
 use sheet::limits::{ALL_STARTS, FEW_STARTS, SMALL_BYTES};
+use text::word::check_word;
 
 // The bytes of a row.
 pub const ROW: usize = 28;
@@ -69,71 +69,51 @@ fn put_row(row: Classified, out: &mut [u8])
 
 // The first n rows that the walk has kept, each with its root's origin, one after the other at the front of the buffer, and their number; 8
 // where the buffer is too short.
-fn put_rows(
-    word: &[u8],
-    sheet: &[u8],
-    starts: &[Start],
-    n: usize,
-    kept: &[u8],
-    out: &mut [u8],
-) -> u64
-    requires { Indexed sheet.now starts.now × (kept_bytes ≤ length kept.now) × (n ≤ list_limit) }
-    ensures { (result ≡ (rows_filled row_width row_bytes (map (classified (reply sheet.now) word.now) (take n (rows_in kept.now))) out.old).code)
-        × (out.new ≡ (rows_filled row_width row_bytes (map (classified (reply sheet.now) word.now) (take n (rows_in kept.now))) out.old).buffer) }
+fn put_rows(word: &[u8], sheet: &Lexicon<'_>, n: usize, kept: &[u8], out: &mut [u8]) -> u64
+    requires { (kept_bytes ≤ length kept.now) × (n ≤ list_limit) }
+    ensures { (result ≡ (rows_filled row_width row_bytes (map (classified (replies sheet.now) word.now) (take n (rows_in kept.now))) out.old).code)
+        × (out.new ≡ (rows_filled row_width row_bytes (map (classified (replies sheet.now) word.now) (take n (rows_in kept.now))) out.old).buffer) }
 {
     if out.len() < ROW * n {
         return refusal_code(Refusal::OutputTooShort);
     }
-    let mut i: usize = 0;
-    while i < n {
-        let r = classify_root(word, sheet, starts, row_at(kept, i));
-        let at = ROW * i;
-        put_row(r, &mut out[at..]);
-        i += 1;
+    for i in 0..n {
+        let r = classify_root(word, sheet, row_at(kept, i));
+        put_row(r, &mut out[ROW * i..]);
     }
     256 * (n as u64)
 }
 
-// The readings of an accepted word under an accepted sheet.
-fn accepted_rows(word: &[u8], sheet: &[u8], starts: &[Start], out: &mut [u8]) -> u64
-    requires { (word_check word.now ≡ Accepted) × Indexed sheet.now starts.now }
-    ensures { (result ≡ (readings_filled word.now sheet.now out.old).code)
-        × (out.new ≡ (readings_filled word.now sheet.now out.old).buffer) }
+// The readings of an accepted word by an accepted sheet.
+fn rows_in(word: &[u8], sheet: &Lexicon<'_>, out: &mut [u8]) -> u64
+    requires { word_check word.now ≡ Ok tt }
+    ensures { (result ≡ (readings_filled word.now sheet.now.bytes.now out.old).code)
+        × (out.new ≡ (readings_filled word.now sheet.now.bytes.now out.old).buffer) }
 {
     let mut kept: [u8; KEPT] = [0; KEPT];
-    let tally = keep_readings(word, sheet, starts, &mut kept);
+    let tally = keep_readings(word, sheet, &mut kept);
     let n = tally.kept;
     if LIMIT < n {
         return refusal_code(Refusal::TooManyReadings);
     }
-    put_rows(word, sheet, starts, n, &kept, out)
+    put_rows(word, sheet, n, &kept, out)
 }
 
-// Those of any word under an accepted sheet.
-fn rows_in(word: &[u8], sheet: &[u8], starts: &[Start], out: &mut [u8]) -> u64
-    requires { Indexed sheet.now starts.now }
-    ensures { (result ≡ (readings_filled word.now sheet.now out.old).code)
-        × (out.new ≡ (readings_filled word.now sheet.now out.old).buffer) }
-{
-    let inputs = prepare_word(word);
-    match inputs {
-        Inputs::Refused(refusal) => refusal_code(refusal),
-        Inputs::Accepted => accepted_rows(word, sheet, starts, out),
-    }
-}
-
-// Those of any word and any sheet, with a list that has room for the starts of its lines.
+// Those of an accepted word by any sheet, with a list that has room for the starts of its lines.
 fn rows_by(word: &[u8], sheet: &[u8], starts: &mut [Start], out: &mut [u8]) -> u64
-    requires { Room sheet.now starts.old }
+    requires { (word_check word.now ≡ Ok tt) × Room sheet.now starts.old }
     ensures { (result ≡ (readings_filled word.now sheet.now out.old).code)
         × (out.new ≡ (readings_filled word.now sheet.now out.old).buffer) }
 {
-    let ready = prepare_sheet(sheet, starts);
-    let lines = ready.lines;
-    let inputs = ready.inputs;
-    match inputs {
-        Inputs::Refused(refusal) => refusal_code(first_refusal(word, refusal)),
-        Inputs::Accepted => rows_in(word, sheet, &starts[..lines], out),
+    match check_lines(sheet, starts) {
+        Err(fault) => refusal_code(Refusal::from(fault)),
+        Ok(lines) => {
+            let lexicon = Lexicon {
+                bytes: sheet,
+                starts: &starts[..lines],
+            };
+            rows_in(word, &lexicon, out)
+        }
     }
 }
 
@@ -144,6 +124,9 @@ pub extern "C" fn yunthirel_readings(word: &[u8], sheet: &[u8], out: &mut [u8]) 
     ensures { (result ≡ (readings_filled word.now sheet.now out.old).code)
         × (out.new ≡ (readings_filled word.now sheet.now out.old).buffer) }
 {
+    if let Err(fault) = check_word(word) {
+        return refusal_code(Refusal::from(fault));
+    }
     if sheet.len() <= SMALL_BYTES {
         let mut few: [Start; FEW_STARTS] = [0; FEW_STARTS];
         return rows_by(word, sheet, &mut few, out);

@@ -4,10 +4,10 @@ ghost use Rattle.exports.specs.Surface.{reading_in, surface_filled};
 
 use crate::{refusal_code, written_code};
 use listing::surface::write_surface;
-use lookup::lines::prepare_word;
 use ranking::Reading;
 use ranking::rows::{WIDTH, get_reading};
-use sheet::inputs::Inputs;
+use refusals::Refusal;
+use text::word::check_word;
 
 // The reading that a row says, by its first 22 bytes; of a row with fewer, the one without stem and affixes.
 fn row_reading(row: &[u8]) -> Reading
@@ -28,9 +28,8 @@ pub extern "C" fn yunthirel_surface(word: &[u8], row: &[u8], out: &mut [u8]) -> 
     ensures { (result ≡ (surface_filled word.now row.now out.old).code)
         × (out.new ≡ (surface_filled word.now row.now out.old).buffer) }
 {
-    let inputs = prepare_word(word);
-    match inputs {
-        Inputs::Refused(refusal) => refusal_code(refusal),
-        Inputs::Accepted => written_code(write_surface(word, row_reading(row), out)),
+    match check_word(word) {
+        Err(fault) => refusal_code(Refusal::from(fault)),
+        Ok(()) => written_code(write_surface(word, row_reading(row), out)),
     }
 }

@@ -4,16 +4,15 @@ ghost use Rattle.analysis.specs.Answers.{visits_answer};
 ghost use Rattle.exports.specs.Codes.{visits_code};
 
 use crate::refusal_code;
-use analysis::entry::{Visits, visits_of};
+use analysis::entry::visits_of;
 
 // How many pieces the source's walk visits for the word, also where it has too many readings to list; else the refusal, 1 to 6.
 #[unsafe(no_mangle)]
 pub extern "C" fn yunthirel_visits(word: &[u8], sheet: &[u8]) -> u64
     ensures { result ≡ visits_code (visits_answer word.now sheet.now) }
 {
-    let answer = visits_of(word, sheet);
-    match answer {
-        Visits::Refused(refusal) => refusal_code(refusal),
-        Visits::Given(visits) => 256 * (visits as u64),
+    match visits_of(word, sheet) {
+        Err(refusal) => refusal_code(refusal),
+        Ok(visits) => 256 * (visits as u64),
     }
 }

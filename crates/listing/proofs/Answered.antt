@@ -1,5 +1,7 @@
 -- What an entry that writes a text gives and leaves; and the program's input, cut into word and sheet. The proofs of the entries cite
 -- these. Assumes nothing.
+use Rattle.std.specs.Prelude.{Result}
+use Rattle.refusals.specs.declared.Refusal.{Refusal}
 use Prim.Native.Nat.{ℕ, ◌+◌, ◌-◌, ◌≤◌, ◌<◌}
 use native.Mathlib.Omega.{arith}
 use native.Mathlib.Nat.{zero-add}
@@ -15,10 +17,9 @@ use Rattle.listing.specs.Texts.{listing_room}
 use Rattle.listing.specs.Printed.{readings_text, input_limit, printed}
 use Rattle.refusals.specs.Refusals.{numbers_of}
 use Rattle.refusals.specs.declared.Refusal.TheVariants.{SheetTooLong}
-use Rattle.refusals.specs.declared.Written.{Written}
 
 -- the same text, said otherwise
-pub answer_as : {t u old new : List ℕ} {r : Written} → t ≡ u → Answer t old new r → length t ≤ listing_room → Answer u old new r × (length u ≤ listing_room)
+pub answer_as : {t u old new : List ℕ} {r : Result ℕ Refusal} → t ≡ u → Answer t old new r → length t ≤ listing_room → Answer u old new r × (length u ≤ listing_room)
 answer_as {old = old} {new = new} {r = r} e a l = subst (λ (x : List ℕ). Answer x old new r × (length x ≤ listing_room)) e (a, l)
 
 -- the program's input: too long, or a word and a sheet

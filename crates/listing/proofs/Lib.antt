@@ -1,4 +1,3 @@
-pub mod Labels
 pub mod Parted
 pub mod Worked
 pub mod Room

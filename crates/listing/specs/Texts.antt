@@ -27,11 +27,15 @@ abbrev pub mark_text : Bool → List ℕ
 mark_text true = 0x20 ∷ 0x73 ∷ 0x68 ∷ 0x61 ∷ 0x72 ∷ 0x65 ∷ 0x64 ∷ []  -- shared, behind a space
 mark_text false = []
 
+-- the text of a suffix row
+abbrev pub affix_text : ℕ → List ℕ
+affix_text k = get_or affixes k []
+
 -- (LABEL KIND), or (LABEL KIND shared)
 unfoldable pub segment_text : Segment → List ℕ
 segment_text s =
     (0x28 ∷ [])  -- (
-    ++ (get_or affixes s.label []
+    ++ (affix_text s.label
     ++ ((0x20 ∷ [])
     ++ (kind_text s.kind
     ++ (mark_text s.shared

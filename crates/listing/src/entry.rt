@@ -6,34 +6,34 @@ ghost use Rattle.listing.specs.Texts.{listing_room};
 ghost use Rattle.listing.specs.Printed.{outcome_of, left_of, readings_text, printed};
 
 use crate::write_listing;
-use analysis::entry::{Said, analyze_affixes};
-use refusals::{Refusal, Written};
+use analysis::entry::analyze_affixes;
+use refusals::Refusal;
 use writing::write_refused;
 
 // Writes the list of the word's readings at the front of `out`. A refused word or sheet, too many readings and too short a buffer
 // leave it as it was. 37,386 bytes are always enough.
-pub fn write_readings(word: &[u8], sheet: &[u8], out: &mut [u8]) -> Written
+pub fn write_readings(word: &[u8], sheet: &[u8], out: &mut [u8]) -> Result<usize, Refusal>
     ensures { (result ≡ outcome_of word.now sheet.now out.old) × (out.new ≡ left_of word.now sheet.now out.old) × (length (readings_text word.now sheet.now) ≤ listing_room) }
 {
     let analysis = analyze_affixes(word, sheet);
     let said = analysis.said;
     let list = analysis.list;
     match said {
-        Said::Refused(refusal) => Written::Refused(refusal),
-        Said::Listed => write_listing(word, list, out),
+        Err(refusal) => Err(refusal),
+        Ok(()) => write_listing(word, list, out),
     }
 }
 
 // Writes what is printed for a word and a sheet: the list, or the line of the refusal. Too short a buffer is left as it was.
-pub fn print_readings(word: &[u8], sheet: &[u8], out: &mut [u8]) -> Written
+pub fn print_readings(word: &[u8], sheet: &[u8], out: &mut [u8]) -> Result<usize, Refusal>
     ensures { Answer (readings_text word.now sheet.now) out.old out.new result × (length (readings_text word.now sheet.now) ≤ listing_room) }
 {
     let analysis = analyze_affixes(word, sheet);
     let said = analysis.said;
     let list = analysis.list;
     match said {
-        Said::Refused(refusal) => write_refused(refusal, out),
-        Said::Listed => write_listing(word, list, out),
+        Err(refusal) => write_refused(refusal, out),
+        Ok(()) => write_listing(word, list, out),
     }
 }
 
@@ -50,7 +50,7 @@ fn after<'i>(input: &'i [u8], end: usize) -> &'i [u8]
 }
 
 // Writes what the program prints for its input: the word up to the first 0A, then the sheet.
-pub fn print_answer(input: &[u8], out: &mut [u8]) -> Written
+pub fn print_answer(input: &[u8], out: &mut [u8]) -> Result<usize, Refusal>
     ensures { Answer (printed input.now) out.old out.new result × (length (printed input.now) ≤ listing_room) }
 {
     if 65536 < input.len() {

@@ -7,8 +7,8 @@ ghost use Rattle.ranking.specs.Lists.{rows_of};
 ghost use Rattle.writing.specs.Placed.{Answer};
 ghost use Rattle.listing.specs.Texts.{listing_text, listing_room};
 
-use ranking::Listing;
-use refusals::{Refusal, Written};
+use ranking::{LIMIT, Listing};
+use refusals::Refusal;
 use rows::put_listing;
 
 pub mod entry;
@@ -17,14 +17,14 @@ pub mod surface;
 pub mod whole;
 
 // Writes the text of a list of readings of the word at the front of `out`. Too short a buffer is left as it was.
-pub fn write_listing(word: &[u8], list: Listing, out: &mut [u8]) -> Written
+pub fn write_listing(word: &[u8], list: Listing, out: &mut [u8]) -> Result<usize, Refusal>
     ensures { Answer (listing_text word.now (rows_of list)) out.old out.new result × (length word.now ≤ word_limit → length (listing_text word.now (rows_of list)) ≤ listing_room) }
 {
-    let mut none = [0u8; 0];
-    let size = put_listing(&mut none, 0, word, list);
+    let rows = &list.rows[..list.count.min(LIMIT)];
+    let size = put_listing(word, rows, &mut []);
     if out.len() < size {
-        return Written::Refused(Refusal::OutputTooShort);
+        return Err(Refusal::OutputTooShort);
     }
-    put_listing(out, 0, word, list);
-    Written::Wrote(size)
+    put_listing(word, rows, out);
+    Ok(size)
 }

@@ -1,225 +1,164 @@
-// The rows of a listing, put piece by piece. The tables are lent down: the labels of the prefixes with their starts, and the 25 texts
-// with theirs.
-ghost use Rattle.std.specs.Prelude.{◌≡◌, [], ◌∷◌, ◌*◌, ◌≤◌, min, length, take};
+// The rows of a listing, put piece by piece.
+ghost use Rattle.std.specs.Prelude.{◌≡◌, ◌*◌, ◌≤◌, length, take};
 ghost use Rattle.text.specs.Word.{word_limit};
-ghost use Rattle.tables.specs.Tables.{Cuts, Laid, affixes};
-ghost use Rattle.tables.specs.Rows.{prefix_labels};
-ghost use Rattle.ranking.specs.Lists.{rows_of};
 ghost use Rattle.writing.specs.Placed.{Wrote};
-ghost use Rattle.writing.specs.Refused.{gap, parted, refused_text};
-ghost use Rattle.listing.specs.Texts.{kind_text, mark_text, segment_text, prefix_texts, segment_texts, reading_text, end_text, row_text, row_texts, listing_text, reading_room, row_room, listing_room};
-ghost use Rattle.listing.specs.Labels.{label_at};
+ghost use Rattle.writing.specs.Refused.{gap, parted};
+ghost use Rattle.writing.specs.Writers.{with_text};
+ghost use Rattle.listing.specs.Texts.{kind_text, mark_text, affix_text, label_text, segment_text, prefix_texts, segment_texts, reading_text, end_text, row_text, row_texts, listing_text, reading_room, row_room, listing_room};
 
-use ranking::{AffixKind, Classified, Listing, Reading, Segment, root_of, stem_of};
+use ranking::{AffixKind, Classified, Reading, Segment, root_of, stem_of};
 use tables::origins::Origin;
-use writing::{put, put_decimal};
-
-pub(crate) fn wide8(x: u8) -> usize
-    ensures { result ≡ x }
-{
-    x as usize
-}
-
-fn wide16(x: u16) -> usize
-    ensures { result ≡ x }
-{
-    x as usize
-}
-
-pub(crate) fn least(a: usize, b: usize) -> usize
-    ensures { result ≡ min a b }
-{
-    if a < b { a } else { b }
-}
+use writing::Writer;
 
 // Puts a space, but not before the first text.
-pub(crate) fn put_gap(out: &mut [u8], at: usize, i: usize) -> usize
-    ensures { Wrote out.old out.new at result (gap i) }
+pub(crate) fn put_gap(w: &mut Writer, i: usize)
+    ensures { w.new ≡ with_text w.old (gap i) }
 {
-    if i == 0 {
-        return at;
+    if 0 < i {
+        w.put(b" ");
     }
-    put(out, at, b" ")
 }
 
-// Puts row k of a lent table, nothing where there is no such row.
-pub(crate) fn put_label(out: &mut [u8], at: usize, bytes: &[u8], starts: &[u16], k: u8) -> usize
-    requires { Cuts bytes.now starts.now }
-    ensures { Wrote out.old out.new at result (label_at bytes.now starts.now k) }
+// The label of prefix row k, nothing where there is no such row.
+fn label_text(k: u8) -> &'static [u8]
+    ensures { result.now ≡ label_text k }
 {
-    let row = wide8(k);
-    if starts.len() <= row + 1 {
-        return at;
+    if 30 <= k {
+        return b"";
     }
-    put(out, at, tables::row(bytes, starts, row))
+    tables::prefix_label(usize::from(k))
+}
+
+// Suffix text k, nothing where there is none.
+pub(crate) fn affix_text(k: u8) -> &'static [u8]
+    ensures { result.now ≡ affix_text k }
+{
+    if 25 <= k {
+        return b"";
+    }
+    tables::affix(usize::from(k))
 }
 
 // Puts the name of a kind.
-fn put_kind(out: &mut [u8], at: usize, kind: AffixKind) -> usize
-    ensures { Wrote out.old out.new at result (kind_text kind) }
+fn put_kind(w: &mut Writer, kind: AffixKind)
+    ensures { w.new ≡ with_text w.old (kind_text kind) }
 {
     match kind {
-        AffixKind::Particle => put(out, at, b"particle"),
-        AffixKind::CaseMarker => put(out, at, b"case"),
-        AffixKind::PluralMarker => put(out, at, b"plural"),
-        AffixKind::Postposition => put(out, at, b"post"),
-        AffixKind::ComparisonMarker => put(out, at, b"comp"),
+        AffixKind::Particle => w.put(b"particle"),
+        AffixKind::CaseMarker => w.put(b"case"),
+        AffixKind::PluralMarker => w.put(b"plural"),
+        AffixKind::Postposition => w.put(b"post"),
+        AffixKind::ComparisonMarker => w.put(b"comp"),
     }
 }
 
 // Puts the mark of a shared first letter, nothing for a plain suffix.
-fn put_mark(out: &mut [u8], at: usize, shared: bool) -> usize
-    ensures { Wrote out.old out.new at result (mark_text shared) }
+fn put_mark(w: &mut Writer, shared: bool)
+    ensures { w.new ≡ with_text w.old (mark_text shared) }
 {
-    if !shared {
-        return at;
+    if shared {
+        w.put(b" shared");
     }
-    put(out, at, b" shared")
 }
 
 // Puts a segment: its label, its kind, and its mark where its first letter is shared.
-fn put_segment(out: &mut [u8], at: usize, texts: &[u8], cuts: &[u16], s: Segment) -> usize
-    requires { Laid affixes texts.now cuts.now }
-    ensures { Wrote out.old out.new at result (segment_text s) }
+#[tactic(auto, using(std::proofs::lemmas::Grind::common_steps), unfolding(crate::specs::Texts::segment_text))]
+fn put_segment(w: &mut Writer, s: Segment)
+    ensures { w.new ≡ with_text w.old (segment_text s) }
 {
-    let open = put(out, at, b"(");
-    let label = put_label(out, open, texts, cuts, s.label);
-    let space = put(out, label, b" ");
-    let kind = s.kind;
-    let named = put_kind(out, space, kind);
-    let marked = put_mark(out, named, s.shared);
-    put(out, marked, b")")
+    w.put(b"(");
+    w.put(affix_text(s.label));
+    w.put(b" ");
+    put_kind(w, s.kind);
+    put_mark(w, s.shared);
+    w.put(b")");
 }
 
 // Puts the prefix labels of a reading.
-fn put_prefixes(out: &mut [u8], at: usize, labels: &[u8], cuts: &[u16], row: Reading) -> usize
-    requires { Laid prefix_labels labels.now cuts.now }
-    ensures { Wrote out.old out.new at result (parted (prefix_texts row)) }
+fn put_prefixes(w: &mut Writer, row: Reading)
+    ensures { w.new ≡ with_text w.old (parted (prefix_texts row)) }
 {
-    let n = least(wide8(row.prefix_count), 2);
-    let mut next = at;
-    let mut i: usize = 0;
-    while i < n {
-        let k = row.prefixes[i];
-        let behind = put_gap(out, next, i);
-        next = put_label(out, behind, labels, cuts, k);
-        i += 1;
+    let n = usize::from(row.prefix_count).min(row.prefixes.len());
+    for i in 0..n {
+        put_gap(w, i);
+        w.put(label_text(row.prefixes[i]));
     }
-    next
 }
 
 // Puts the segments of a reading.
-fn put_segments(out: &mut [u8], at: usize, texts: &[u8], cuts: &[u16], row: Reading) -> usize
-    requires { Laid affixes texts.now cuts.now }
-    ensures { Wrote out.old out.new at result (parted (segment_texts row)) }
+fn put_segments(w: &mut Writer, row: Reading)
+    ensures { w.new ≡ with_text w.old (parted (segment_texts row)) }
 {
-    let n = least(wide8(row.suffix_count), 4);
-    let mut next = at;
-    let mut i: usize = 0;
-    while i < n {
-        let s = row.segments[i];
-        let behind = put_gap(out, next, i);
-        next = put_segment(out, behind, texts, cuts, s);
-        i += 1;
+    let n = usize::from(row.suffix_count).min(row.segments.len());
+    for i in 0..n {
+        put_gap(w, i);
+        put_segment(w, row.segments[i]);
     }
-    next
 }
 
 // Puts what a row says of a reading: stem, root, prefix labels, segments and score, with a space behind it.
-fn put_reading(
-    out: &mut [u8],
-    at: usize,
-    word: &[u8],
-    labels: &[u8],
-    starts: &[u16],
-    texts: &[u8],
-    cuts: &[u16],
-    row: Reading,
-) -> usize
-    requires { Laid prefix_labels labels.now starts.now × Laid affixes texts.now cuts.now }
-    ensures { Wrote out.old out.new at result (reading_text word.now row) × (length word.now ≤ word_limit → length (reading_text word.now row) ≤ reading_room) }
+fn put_reading(w: &mut Writer, word: &[u8], row: Reading)
+    ensures { (w.new ≡ with_text w.old (reading_text word.now row)) × (length word.now ≤ word_limit → length (reading_text word.now row) ≤ reading_room) }
 {
-    let a = put(out, at, b"(r ");
-    let b = put(out, a, stem_of(word, row));
-    let c = put(out, b, b" ");
-    let d = put(out, c, root_of(word, row));
-    let e = put(out, d, b" (");
-    let f = put_prefixes(out, e, labels, starts, row);
-    let g = put(out, f, b") (");
-    let h = put_segments(out, g, texts, cuts, row);
-    let i = put(out, h, b") ");
-    let j = put_decimal(out, i, wide16(row.score));
-    put(out, j, b" ")
+    w.put(b"(r ");
+    w.put(stem_of(word, row));
+    w.put(b" ");
+    w.put(root_of(word, row));
+    w.put(b" (");
+    put_prefixes(w, row);
+    w.put(b") (");
+    put_segments(w, row);
+    w.put(b") ");
+    w.put_decimal(usize::from(row.score));
+    w.put(b" ");
 }
 
 // Puts the end of a row: the tag letter of an origin, t b d a, and what closes the row.
-fn put_end(out: &mut [u8], at: usize, origin: Origin) -> usize
-    ensures { Wrote out.old out.new at result (end_text origin) }
+fn put_end(w: &mut Writer, origin: Origin)
+    ensures { w.new ≡ with_text w.old (end_text origin) }
 {
     match origin {
-        Origin::Tatsam => put(out, at, b"t)\n"),
-        Origin::Tadbhav => put(out, at, b"b)\n"),
-        Origin::Deshaj => put(out, at, b"d)\n"),
-        Origin::Aagantuk => put(out, at, b"a)\n"),
+        Origin::Tatsam => w.put(b"t)\n"),
+        Origin::Tadbhav => w.put(b"b)\n"),
+        Origin::Deshaj => w.put(b"d)\n"),
+        Origin::Aagantuk => w.put(b"a)\n"),
     }
 }
 
 // Puts a row: stem, root, prefix labels, segments and score of a reading, and the tag letter of its root's origin.
-fn put_row(
-    out: &mut [u8],
-    at: usize,
-    word: &[u8],
-    labels: &[u8],
-    starts: &[u16],
-    texts: &[u8],
-    cuts: &[u16],
-    row: Classified,
-) -> usize
-    requires { Laid prefix_labels labels.now starts.now × Laid affixes texts.now cuts.now }
-    ensures { Wrote out.old out.new at result (row_text word.now row) × (length word.now ≤ word_limit → length (row_text word.now row) ≤ row_room) }
+fn put_row(w: &mut Writer, word: &[u8], row: Classified)
+    ensures { (w.new ≡ with_text w.old (row_text word.now row)) × (length word.now ≤ word_limit → length (row_text word.now row) ≤ row_room) }
 {
-    let reading = row.reading;
-    let origin = row.origin;
-    let behind = put_reading(out, at, word, labels, starts, texts, cuts, reading);
-    put_end(out, behind, origin)
+    put_reading(w, word, row.reading);
+    put_end(w, row.origin);
 }
 
-// Puts the rows of a list, the first n of them.
-fn put_rows(
-    out: &mut [u8],
-    at: usize,
-    word: &[u8],
-    labels: &[u8],
-    starts: &[u16],
-    texts: &[u8],
-    cuts: &[u16],
-    list: Listing,
-    n: usize,
-) -> usize
-    requires { Laid prefix_labels labels.now starts.now × Laid affixes texts.now cuts.now × (n ≤ 64) }
-    ensures { Wrote out.old out.new at result (row_texts word.now (take n list.rows)) × (length word.now ≤ word_limit → length (row_texts word.now (take n list.rows)) ≤ n * row_room) }
+// Puts rows of a list, one after the other.
+fn put_rows(w: &mut Writer, word: &[u8], rows: &[Classified])
+    ensures { (w.new ≡ with_text w.old (row_texts word.now rows.now)) × (length word.now ≤ word_limit → length (row_texts word.now rows.now) ≤ length rows.now * row_room) }
 {
-    let mut next = at;
-    let mut i: usize = 0;
-    while i < n {
-        let row = list.rows[i];
-        next = put_row(out, next, word, labels, starts, texts, cuts, row);
-        i += 1;
+    for &row in rows {
+        put_row(w, word, row);
     }
-    next
 }
 
-// Puts a list: how many rows there are, then the rows.
-pub(crate) fn put_listing(out: &mut [u8], at: usize, word: &[u8], list: Listing) -> usize
-    ensures { Wrote out.old out.new at result (listing_text word.now (rows_of list)) × (length word.now ≤ word_limit → length (listing_text word.now (rows_of list)) ≤ listing_room) }
+// Puts the text of a list: how many rows there are, then the rows.
+fn put_list(w: &mut Writer, word: &[u8], rows: &[Classified])
+    requires { length rows.now ≤ 64 }
+    ensures { (w.new ≡ with_text w.old (listing_text word.now rows.now)) × (length word.now ≤ word_limit → length (listing_text word.now rows.now) ≤ listing_room) }
 {
-    let labels = tables::prefix_labels();
-    let starts = tables::prefix_label_starts();
-    let texts = tables::affixes();
-    let cuts = tables::affix_starts();
-    let n = least(list.count, 64);
-    let a = put(out, at, b"(list ");
-    let b = put_decimal(out, a, n);
-    let c = put(out, b, b")\n");
-    put_rows(out, c, word, &labels, &starts, &texts, &cuts, list, n)
+    w.put(b"(list ");
+    w.put_decimal(rows.len());
+    w.put(b")\n");
+    put_rows(w, word, rows);
+}
+
+// Puts a list at the front of `out`, as much of it as there is room for, and gives how long it is.
+pub(crate) fn put_listing(word: &[u8], rows: &[Classified], out: &mut [u8]) -> usize
+    requires { length rows.now ≤ 64 }
+    ensures { Wrote out.old out.new 0 result (listing_text word.now rows.now) × (length word.now ≤ word_limit → length (listing_text word.now rows.now) ≤ listing_room) }
+{
+    let mut w = Writer::new(out);
+    put_list(&mut w, word, rows);
+    w.at()
 }

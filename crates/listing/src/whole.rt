@@ -4,7 +4,6 @@ ghost use Rattle.writing.specs.Placed.{Whole};
 ghost use Rattle.listing.specs.Printed.{readings_text, printed};
 
 use crate::entry::{print_answer, print_readings};
-use refusals::Written;
 
 // Writes the readings of the word at the front of `out`, or the line of the refusal, and gives how long that is.
 pub fn readings_of(word: &[u8], sheet: &[u8], out: &mut [u8; 65536]) -> usize
@@ -12,8 +11,8 @@ pub fn readings_of(word: &[u8], sheet: &[u8], out: &mut [u8; 65536]) -> usize
 {
     let written = print_readings(word, sheet, out);
     match written {
-        Written::Wrote(n) => n,
-        Written::Refused(_) => 0,
+        Ok(n) => n,
+        Err(_) => 0,
     }
 }
 
@@ -23,7 +22,7 @@ pub fn answer_of(input: &[u8], out: &mut [u8; 65536]) -> usize
 {
     let written = print_answer(input, out);
     match written {
-        Written::Wrote(size) => size,
-        Written::Refused(_) => 0,
+        Ok(size) => size,
+        Err(_) => 0,
     }
 }

@@ -1,5 +1,6 @@
 -- Lines whose names begin alike: the order of a line and a head is its order to every name that begins so, and such lines stand
 -- together. The proofs of `begins` cite it. Assumes nothing.
+use Rattle.std.specs.Prelude.{None, Some}
 use mathlib.Core.Path.{◌≡◌, refl, sym, ap, subst, ◌∙◌}
 use mathlib.Core.Bool.{Bool, true, false}
 use mathlib.Core.List.{List, [], ◌∷◌, ◌++◌}
@@ -8,8 +9,8 @@ use native.Mathlib.Omega.{arith}
 use lib.ListN.{length, take, drop, get_or, length-append, length-drop, length-take}
 use lib.Seq.{take_all, drop-drop, get_or-drop, get_or-take}
 use Rattle.runs.specs.Runs.{pick, same_text, cmp}
-use Rattle.runs.specs.declared.Order.{Order}
-use Rattle.runs.specs.declared.Order.TheVariants.{Less, Equal, Greater}
+use Rattle.std.specs.declared.cmp.Ordering.{Ordering}
+use Rattle.std.specs.declared.cmp.Ordering.TheVariants.{Less, Equal, Greater}
 use Rattle.runs.proofs.Ordered.{Stand, stand, and_then, cmp_refl, cmp_trans, cmp_turned, turned, same_true}
 use Rattle.runs.proofs.Ends.{same_lengths}
 use Rattle.sheet.specs.Forms.{key, key_of}
@@ -17,7 +18,6 @@ use Rattle.sheet.specs.Lines.{line_at}
 use Rattle.sheet.specs.Replies.{Reply, reply, Indexed}
 use Rattle.lookup.specs.declared.begins.Edge.{Edge}
 use Rattle.lookup.specs.declared.begins.Range.{Range}
-use Rattle.lookup.specs.declared.search.Found.TheVariants.{At, Nothing}
 use Rattle.lookup.specs.Search.{place_in, judge}
 use Rattle.lookup.specs.Begins.{headed_at, Begun, Edged, Ended}
 use Rattle.sheet.specs.Keys.{headed}
@@ -32,17 +32,17 @@ module _ (a b k : List ℕ) (l : cmp a b ≡ Less) where
   pub head-below : headed b k ≡ Less → headed a k ≡ Less
   head-below h = go (headed a k) refl
     where
-      go : (o : Order) → headed a k ≡ o → headed a k ≡ Less
+      go : (o : Ordering) → headed a k ≡ o → headed a k ≡ Less
       go Less e = e
       go Equal e =
           let q = drop (length k) a in
-          let f : cmp b (k ++ q) ≡ Less = head-parts b k q ∙ ap (λ (y : Order). and_then y (cmp (drop (length k) b) q)) h in
-          let g : cmp a (k ++ q) ≡ Equal = head-parts a k q ∙ ap (λ (y : Order). and_then y (cmp q q)) e ∙ cmp_refl q in
+          let f : cmp b (k ++ q) ≡ Less = head-parts b k q ∙ ap (λ (y : Ordering). and_then y (cmp (drop (length k) b) q)) h in
+          let g : cmp a (k ++ q) ≡ Equal = head-parts a k q ∙ ap (λ (y : Ordering). and_then y (cmp q q)) e ∙ cmp_refl q in
           let t : Equal ≡ Less = sym g ∙ cmp_trans a b _ l f in
           let z : ◌≡◌ {A = ℕ} 0 1 = cc in absurd (omega arith)
       go Greater e =
-          let f : cmp b (k ++ []) ≡ Less = head-parts b k [] ∙ ap (λ (y : Order). and_then y (cmp (drop (length k) b) [])) h in
-          let g : cmp a (k ++ []) ≡ Greater = head-parts a k [] ∙ ap (λ (y : Order). and_then y (cmp (drop (length k) a) [])) e in
+          let f : cmp b (k ++ []) ≡ Less = head-parts b k [] ∙ ap (λ (y : Ordering). and_then y (cmp (drop (length k) b) [])) h in
+          let g : cmp a (k ++ []) ≡ Greater = head-parts a k [] ∙ ap (λ (y : Ordering). and_then y (cmp (drop (length k) a) [])) e in
           let t : Greater ≡ Less = sym g ∙ cmp_trans a b _ l f in
           let z : ◌≡◌ {A = ℕ} 0 1 = cc in absurd (omega arith)
 
@@ -51,29 +51,29 @@ module _ (a b k : List ℕ) (l : cmp a b ≡ Less) where
     where
       above : (q : List ℕ) → cmp b (k ++ q) ≡ Greater
       above q =
-          let f : cmp a (k ++ q) ≡ Greater = head-parts a k q ∙ ap (λ (y : Order). and_then y (cmp (drop (length k) a) q)) h in
+          let f : cmp a (k ++ q) ≡ Greater = head-parts a k q ∙ ap (λ (y : Ordering). and_then y (cmp (drop (length k) a) q)) h in
           let g : cmp (k ++ q) b ≡ Less = cmp_trans (k ++ q) a b (cmp_turned a (k ++ q) ∙ ap turned f) l in
           cmp_turned (k ++ q) b ∙ ap turned g
 
-      go : (o : Order) → headed b k ≡ o → headed b k ≡ Greater
+      go : (o : Ordering) → headed b k ≡ o → headed b k ≡ Greater
       go Less e =
-          let g : cmp b (k ++ []) ≡ Less = head-parts b k [] ∙ ap (λ (y : Order). and_then y (cmp (drop (length k) b) [])) e in
+          let g : cmp b (k ++ []) ≡ Less = head-parts b k [] ∙ ap (λ (y : Ordering). and_then y (cmp (drop (length k) b) [])) e in
           let t : Less ≡ Greater = sym g ∙ above [] in
           let z : ◌≡◌ {A = ℕ} 0 1 = cc in absurd (omega arith)
       go Equal e =
           let q = drop (length k) b in
-          let g : cmp b (k ++ q) ≡ Equal = head-parts b k q ∙ ap (λ (y : Order). and_then y (cmp q q)) e ∙ cmp_refl q in
+          let g : cmp b (k ++ q) ≡ Equal = head-parts b k q ∙ ap (λ (y : Ordering). and_then y (cmp q q)) e ∙ cmp_refl q in
           let t : Equal ≡ Greater = sym g ∙ above q in
           let z : ◌≡◌ {A = ℕ} 0 1 = cc in absurd (omega arith)
       go Greater e = e
 
 module _ (s : List ℕ) (letter : ℕ) (head : List ℕ) where
   -- the order of a line and the head, where x is what was found, is its order to each name that begins so
-  pub head_decides : (at : ℕ) (q : List ℕ) (x o : Order) → x ≡ headed (key (line_at s at)) (key_of letter head) → x ≡ o →
+  pub head_decides : (at : ℕ) (q : List ℕ) (x o : Ordering) → x ≡ headed (key (line_at s at)) (key_of letter head) → x ≡ o →
       and_then o (cmp (drop (length (key_of letter head)) (key (line_at s at))) q) ≡ cmp (key (line_at s at)) (key_of letter (head ++ q))
   head_decides at q x o e f =
       sym (head-parts (key (line_at s at)) (key_of letter head) q
-      ∙ ap (λ (y : Order). and_then y (cmp (drop (length (key_of letter head)) (key (line_at s at))) q)) (sym e ∙ f))
+      ∙ ap (λ (y : Ordering). and_then y (cmp (drop (length (key_of letter head)) (key (line_at s at))) q)) (sym e ∙ f))
 
   module _ (starts : List ℕ) (x : Indexed s starts) where
     up : GoesUp s [] starts
@@ -110,7 +110,7 @@ module _ (s : List ℕ) (letter : ℕ) (head : List ℕ) where
       above = λ l. top l (stand hi e.top);
     }
       where
-        go : (i : ℕ) → e.lo ≤ i → i < hi → (o : Order) → headed_at s starts letter head i ≡ o → headed_at s starts letter head i ≡ Equal
+        go : (i : ℕ) → e.lo ≤ i → i < hi → (o : Ordering) → headed_at s starts letter head i ≡ o → headed_at s starts letter head i ≡ Equal
         go i a b Less f = absurd (d.first (omega (arith, d.inside, n.upto)) (later e.lo i a (omega (arith, d.inside, n.upto)) f))
         go i a b Equal f = f
         go i a b Greater f = absurd (n.last (omega arith) (sooner i (hi - 1) (omega arith) (omega (arith, d.inside, n.upto)) f))
@@ -125,7 +125,7 @@ module _ (s : List ℕ) (letter : ℕ) (head : List ℕ) where
       abbrev asks : List ℕ
       asks = key_of letter (head ++ q)
 
-      order_of : (i : ℕ) (o : Order) → headed_at s starts letter head i ≡ o →
+      order_of : (i : ℕ) (o : Ordering) → headed_at s starts letter head i ≡ o →
           and_then o (cmp (drop (length (key_of letter head)) (key (line_at s (get_or starts i 0)))) q) ≡ cmp (key (line_at s (get_or starts i 0))) asks
       order_of i o e = head_decides (get_or starts i 0) q _ o refl e
 
@@ -151,10 +151,10 @@ module _ (s : List ℕ) (letter : ℕ) (head : List ℕ) where
       begun_at i at a b w = ap (λ (z : ℕ). headed (key (line_at s z)) (key_of letter head)) w ∙ g.each i a b
 
       -- one round, on the lines from number lo on that come before number hi
-      pub among_round : (lo hi mid at : ℕ) (y o : Order) → r.lo ≤ lo → lo ≤ mid → mid < hi → hi ≤ r.hi → at ≡ get_or starts mid 0 →
+      pub among_round : (lo hi mid at : ℕ) (y o : Ordering) → r.lo ≤ lo → lo ≤ mid → mid < hi → hi ≤ r.hi → at ≡ get_or starts mid 0 →
           y ≡ cmp (key (line_at s at)) asks → y ≡ o →
           place_in s (drop lo (take hi starts)) asks ≡
-          judge o (place_in s (drop (mid + 1) (take hi starts)) asks) (At at) (place_in s (drop lo (take mid starts)) asks)
+          judge o (place_in s (drop (mid + 1) (take hi starts)) asks) (Some at) (place_in s (drop lo (take mid starts)) asks)
       among_round lo hi mid at y o a b c d w e i = go o order
         where
           es : List ℕ
@@ -180,43 +180,43 @@ module _ (s : List ℕ) (letter : ℕ) (head : List ℕ) where
           goes : GoesUp s [] es
           goes = up_drop s [] lo (take hi starts) (up_take s [] hi starts up)
 
-          go : (v : Order) → cmp (key (line_at s (get_or es (mid - lo) 0))) asks ≡ v →
-              place_in s es asks ≡ judge v (place_in s (drop (mid + 1) (take hi starts)) asks) (At at) (place_in s (drop lo (take mid starts)) asks)
+          go : (v : Ordering) → cmp (key (line_at s (get_or es (mid - lo) 0))) asks ≡ v →
+              place_in s es asks ≡ judge v (place_in s (drop (mid + 1) (take hi starts)) asks) (Some at) (place_in s (drop lo (take mid starts)) asks)
           go Less h =
               let m : lo + suc (mid - lo) ≡ mid + 1 = omega arith in
               place_up s asks [] es (mid - lo) goes within h
               ∙ ap (λ (l : List ℕ). place_in s l asks) (drop-drop (suc (mid - lo)) lo (take hi starts) ∙ ap (λ (z : ℕ). drop z (take hi starts)) m)
-          go Equal h = place_here s asks [] es (mid - lo) goes within h ∙ ap At here
+          go Equal h = place_here s asks [] es (mid - lo) goes within h ∙ ap Some here
           go Greater h =
               place_down s asks [] es (mid - lo) goes within h
               ∙ ap (λ (l : List ℕ). place_in s l asks) (take-between lo (mid - lo) hi mid starts (omega arith) (omega arith))
 
-      pub among_none : (lo hi : ℕ) → hi ≤ lo → place_in s (drop lo (take hi starts)) asks ≡ Nothing
+      pub among_none : (lo hi : ℕ) → hi ≤ lo → place_in s (drop lo (take hi starts)) asks ≡ None
       among_none lo hi h = empty_place s asks (drop lo (take hi starts)) (simp (length-drop, length-take) (omega arith))
 
       -- where there are none, no such question has a reply
       pub none_begun : r.hi ≤ r.lo → reply s letter (head ++ q) ≡ Reply.unknown
-      none_begun h = sym (sought_placed s starts letter (head ++ q) Nothing x (sym (among ∙ among_none r.lo r.hi h))).answers
+      none_begun h = sym (sought_placed s starts letter (head ++ q) None x (sym (among ∙ among_none r.lo r.hi h))).answers
 
     -- where there is at most one such line and a question has a reply, no question of another length has one
     module _ (r : Range) (g : Begun s starts letter head r) (h : r.hi ≤ r.lo + 1) (p q : List ℕ) (d : length p ≡ length q → ⊥) where
-      one_line : (es : List ℕ) → length es ≤ 1 → (place_in s es (key_of letter (head ++ p)) ≡ Nothing → ⊥) → place_in s es (key_of letter (head ++ q)) ≡ Nothing
+      one_line : (es : List ℕ) → length es ≤ 1 → (place_in s es (key_of letter (head ++ p)) ≡ None → ⊥) → place_in s es (key_of letter (head ++ q)) ≡ None
       one_line [] l k = refl
       one_line (at ∷ b ∷ es) l k = absurd (omega arith)
       one_line (at ∷ []) l k = by (same_text (key (line_at s at)) (key_of letter (head ++ p))) refl
         where
-          by : (y : Bool) → same_text (key (line_at s at)) (key_of letter (head ++ p)) ≡ y → place_in s (at ∷ []) (key_of letter (head ++ q)) ≡ Nothing
-          by false e = absurd (k (ap (λ (y : Bool). pick y (At at) Nothing) e))
+          by : (y : Bool) → same_text (key (line_at s at)) (key_of letter (head ++ p)) ≡ y → place_in s (at ∷ []) (key_of letter (head ++ q)) ≡ None
+          by false e = absurd (k (ap (λ (y : Bool). pick y (Some at) None) e))
           by true e =
               let f : same_text (key (line_at s at)) (key_of letter (head ++ q)) ≡ false =
               ap (λ (n : List ℕ). same_text n (key_of letter (head ++ q))) (same_true (key (line_at s at)) (key_of letter (head ++ p)) e)
               ∙ same_lengths (key_of letter (head ++ p)) (key_of letter (head ++ q)) (λ z. d (omega (arith, z, length-append head p, length-append head q))) in
-              ap (λ (y : Bool). pick y (At at) Nothing) f
+              ap (λ (y : Bool). pick y (Some at) None) f
 
       pub alone_begun : (reply s letter (head ++ p) ≡ Reply.unknown → ⊥) → reply s letter (head ++ q) ≡ Reply.unknown
       alone_begun k =
           let es = drop r.lo (take r.hi starts) in
           let few : length es ≤ 1 = simp (length-drop, length-take) (omega (arith, g.inside)) in
-          let unplaced : place_in s es (key_of letter (head ++ p)) ≡ Nothing → ⊥ =
-          λ e. k (sym (sought_placed s starts letter (head ++ p) Nothing x (sym (among r g p ∙ e))).answers) in
-          sym (sought_placed s starts letter (head ++ q) Nothing x (sym (among r g q ∙ one_line es few unplaced))).answers
+          let unplaced : place_in s es (key_of letter (head ++ p)) ≡ None → ⊥ =
+          λ e. k (sym (sought_placed s starts letter (head ++ p) None x (sym (among r g p ∙ e))).answers) in
+          sym (sought_placed s starts letter (head ++ q) None x (sym (among r g q ∙ one_line es few unplaced))).answers

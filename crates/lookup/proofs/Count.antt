@@ -1,5 +1,6 @@
 -- How many lines an accepted sheet has at most, and how their first bytes are stored one by one.
 -- The proofs of `check_lines` and `seek` cite it, and every caller that lends a list for the starts. Assumes nothing.
+use Rattle.std.specs.Prelude.{Ok}
 use mathlib.Core.Path.{◌≡◌, refl, sym, ap, ◌∙◌}
 use mathlib.Core.Bool.{Bool, true, false}
 use mathlib.Core.List.{List, [], ◌∷◌, ◌++◌, append_assoc}
@@ -15,7 +16,6 @@ use Rattle.sheet.specs.Limits.{shortest_line, line_limit, small_limit}
 use Rattle.sheet.specs.Lines.{line_at, starts_from, starts_of, sheet_check}
 use Rattle.sheet.specs.Steps.{value_end}
 use Rattle.sheet.specs.Replies.{Indexed}
-use Rattle.sheet.specs.declared.check.SheetCheck.TheVariants.{Accepted}
 use Rattle.sheet.proofs.Forms.{line-fits, line_long}
 use Rattle.sheet.proofs.Lines.{no_lines, some-line, next_line}
 use Rattle.sheet.proofs.Accepted.{GoesUp, accepted-short, accepted_up}
@@ -42,7 +42,7 @@ few-from (suc k) s at last h g = go (ltb at (length s)) refl (few-from k s)
         let r = rest e (key (line_at s at)) (omega arith) g''.2 in
         rw m (omega (arith, r, l, line-fits s at g'.0))
 
-pub few-lines : (s : List ℕ) → sheet_check s ≡ Accepted → length (starts_of s) ≤ line_limit
+pub few-lines : (s : List ℕ) → sheet_check s ≡ Ok tt → length (starts_of s) ≤ line_limit
 few-lines s h =
     let f = few-from (length s) s 0 [] (omega arith) (accepted_up s h) in
     let l = accepted-short s h in
@@ -91,7 +91,7 @@ module _ (starts out old : List ℕ) (n : ℕ) (h : n ≤ length out) where
       (omega arith, ap (λ (k : ℕ). get_or starts k 0) (sym z) ∙ sym (get_or-drop n starts 0 0) ∙ ap (λ (x : List ℕ). get_or x 0 0) d)
 
 -- what the caller has: the stored starts stand for the accepted sheet in a search
-pub filled : (s out old : List ℕ) (r : ℕ) → sheet_check s ≡ Accepted → r ≡ length (starts_of s) → out ≡ starts_of s ++ drop r old →
+pub filled : (s out old : List ℕ) (r : ℕ) → sheet_check s ≡ Ok tt → r ≡ length (starts_of s) → out ≡ starts_of s ++ drop r old →
     Indexed s (take r out)
 filled s out old r h n e =
     record { accepted = h; listed = ap (λ (l : List ℕ). take r l) e ∙ take_at (starts_of s) (drop r old) r (sym n) }

@@ -1,5 +1,6 @@
 -- Why a search by halves is right: the lines go up, so that one look at a line settles all lines on one side of it.
 -- The rounds of a search, and what its answer says, rest on it. Assumes nothing.
+use Rattle.std.specs.Prelude.{None, Option, Some}
 use mathlib.Core.Path.{◌≡◌, refl, sym, ap, ◌∙◌}
 use mathlib.Core.Bool.{Bool, true, false}
 use mathlib.Core.List.{List, [], ◌∷◌, map, Memᴰ}
@@ -7,28 +8,26 @@ use Prim.Native.Nat.{ℕ, zero, suc, ◌<◌}
 use native.Mathlib.Omega.{arith}
 use lib.ListN.{length, take, drop, get_or}
 use Rattle.runs.specs.Runs.{pick, same_text, cmp}
-use Rattle.runs.specs.declared.Order.{Order}
-use Rattle.runs.specs.declared.Order.TheVariants.{Less, Equal, Greater}
+use Rattle.std.specs.declared.cmp.Ordering.{Ordering}
+use Rattle.std.specs.declared.cmp.Ordering.TheVariants.{Less, Equal, Greater}
 use Rattle.runs.proofs.Ordered.{cmp_trans, cmp_turned, cmp_equal, same_cmp, same_true, is_equal, turned}
 use Rattle.sheet.specs.Forms.{key}
 use Rattle.sheet.specs.Lines.{line_at}
 use Rattle.sheet.specs.Replies.{Reply, reply_in}
-use Rattle.lookup.specs.declared.search.Found.{Found}
-use Rattle.lookup.specs.declared.search.Found.TheVariants.{At, Nothing}
 use Rattle.lookup.specs.Search.{place_in, answer_at}
 use Rattle.sheet.proofs.Accepted.{GoesUp, up_above}
 
 module _ (s q : List ℕ) where
   -- a line that is not the question's is passed over, and the question's line is the answer
-  place_other : (at : ℕ) (places : List ℕ) (o : Order) → cmp (key (line_at s at)) q ≡ o → is_equal o ≡ false →
+  place_other : (at : ℕ) (places : List ℕ) (o : Ordering) → cmp (key (line_at s at)) q ≡ o → is_equal o ≡ false →
       place_in s (at ∷ places) q ≡ place_in s places q
   place_other at places o e f = rw (same_cmp (key (line_at s at)) q, e, f)
 
-  place_this : (at : ℕ) (places : List ℕ) → cmp (key (line_at s at)) q ≡ Equal → place_in s (at ∷ places) q ≡ At at
+  place_this : (at : ℕ) (places : List ℕ) → cmp (key (line_at s at)) q ≡ Equal → place_in s (at ∷ places) q ≡ Some at
   place_this at places e = rw (same_cmp (key (line_at s at)) q, e)
 
   -- no line above the question is its line
-  place_none : (last places : List ℕ) → GoesUp s last places → cmp q last ≡ Less → place_in s places q ≡ Nothing
+  place_none : (last places : List ℕ) → GoesUp s last places → cmp q last ≡ Less → place_in s places q ≡ None
   place_none last [] g h = refl
   place_none last (at ∷ places) g h =
       let k : cmp q (key (line_at s at)) ≡ Less = cmp_trans q last _ h g.1 in
@@ -50,10 +49,10 @@ module _ (s q : List ℕ) where
       place_other at places Greater e refl
       ∙ place_none (key (line_at s at)) places g.2 (cmp_turned (key (line_at s at)) q ∙ ap turned e)
   place_down last (at ∷ places) (suc m) g h e =
-      ap (λ (r : Found). pick (same_text (key (line_at s at)) q) (At at) r) (place_down (key (line_at s at)) places m g.2 (omega arith) e)
+      ap (λ (r : Option ℕ). pick (same_text (key (line_at s at)) q) (Some at) r) (place_down (key (line_at s at)) places m g.2 (omega arith) e)
 
   pub place_here : (last places : List ℕ) (m : ℕ) → GoesUp s last places → m < length places →
-      cmp (key (line_at s (get_or places m 0))) q ≡ Equal → place_in s places q ≡ At (get_or places m 0)
+      cmp (key (line_at s (get_or places m 0))) q ≡ Equal → place_in s places q ≡ Some (get_or places m 0)
   place_here last [] m g h e = absurd (omega arith)
   place_here last (at ∷ places) zero g h e = place_this at places e
   place_here last (at ∷ places) (suc m) g h e =
@@ -68,17 +67,17 @@ module _ (s q : List ℕ) where
   place_replies (at ∷ places) = go (same_text (key (line_at s at)) q) (place_replies places)
     where
       go : (b : Bool) → answer_at s (place_in s places q) ≡ reply_in (map (line_at s) places) q →
-          answer_at s (pick b (At at) (place_in s places q)) ≡ pick b (Reply.told (line_at s at).value) (reply_in (map (line_at s) places) q)
+          answer_at s (pick b (Some at) (place_in s places q)) ≡ pick b (Reply.told (line_at s at).value) (reply_in (map (line_at s) places) q)
       go true r = refl
       go false r = r
 
-  pub place_asks : (places : List ℕ) (at : ℕ) → place_in s places q ≡ At at → Memᴰ at places × (key (line_at s at) ≡ q)
+  pub place_asks : (places : List ℕ) (at : ℕ) → place_in s places q ≡ Some at → Memᴰ at places × (key (line_at s at) ≡ q)
   place_asks [] at e = let z : ◌≡◌ {A = ℕ} 0 1 = cc in absurd (omega arith)
   place_asks (a ∷ places) at e = go (same_text (key (line_at s a)) q) refl (place_asks places at) e
     where
       go : (b : Bool) → same_text (key (line_at s a)) q ≡ b →
-          (place_in s places q ≡ At at → Memᴰ at places × (key (line_at s at) ≡ q)) →
-          pick b (At a) (place_in s places q) ≡ At at → Memᴰ at (a ∷ places) × (key (line_at s at) ≡ q)
+          (place_in s places q ≡ Some at → Memᴰ at places × (key (line_at s at) ≡ q)) →
+          pick b (Some a) (place_in s places q) ≡ Some at → Memᴰ at (a ∷ places) × (key (line_at s at) ≡ q)
       go true f rest e =
           let p : at ≡ a = cc in
           (Memᴰ.head p, ap (λ (x : ℕ). key (line_at s x)) p ∙ same_true (key (line_at s a)) q f)

@@ -1,4 +1,5 @@
 -- Where the name and the value of a found line stand in the sheet. The proofs of `answers` cite it. Assumes nothing.
+use Rattle.std.specs.Prelude.{None, Option, Some}
 use mathlib.Core.Path.{◌≡◌, refl, sym, ap, ◌∙◌}
 use mathlib.Core.Bool.{Bool, true, false}
 use mathlib.Core.List.{List, [], ◌++◌, append-nil}
@@ -9,8 +10,6 @@ use Rattle.runs.specs.Runs.{pick, same_text}
 use Rattle.sheet.specs.Forms.{key, key_of}
 use Rattle.sheet.specs.Lines.{line_at}
 use Rattle.sheet.specs.Replies.{Reply, reply}
-use Rattle.lookup.specs.declared.search.Found.{Found}
-use Rattle.lookup.specs.declared.search.Found.TheVariants.{At, Nothing}
 use Rattle.lookup.specs.declared.answers.Spot.{Spot}
 use Rattle.lookup.specs.Search.{answer_at, Sought}
 use Rattle.lookup.specs.Answers.{text_at, value_spot, name_spot, FormAt, ValueOf, named, NameOf, post, kind_told, kind_for}
@@ -19,47 +18,47 @@ use Rattle.sheet.specs.Steps.{name_end, value_end}
 use Rattle.sheet.proofs.Forms.{name-text, value-text}
 
 -- the line that a search has found is a form
-pub form_at : (s : List ℕ) (letter : ℕ) (name : List ℕ) (line : Found) → Sought s letter name line → FormAt s line
-form_at s letter name Nothing k = tt
-form_at s letter name (At at) k = k.placed.form
+pub form_at : (s : List ℕ) (letter : ℕ) (name : List ℕ) (line : Option ℕ) → Sought s letter name line → FormAt s line
+form_at s letter name None k = tt
+form_at s letter name (Some at) k = k.placed.form
 
 module _ (s : List ℕ) (letter : ℕ) (name : List ℕ) where
-  found_name : (at : ℕ) → Sought s letter name (At at) → (line_at s at).name ≡ name
+  found_name : (at : ℕ) → Sought s letter name (Some at) → (line_at s at).name ≡ name
   found_name at k = let e : key (line_at s at) ≡ key_of letter name = k.placed.asks in cc
 
   -- its name is the question's
-  pub name_of : (line : Found) (r : Spot) → Sought s letter name line → r ≡ name_spot s line → r.at + r.len ≤ length s → NameOf s letter name r
+  pub name_of : (line : Option ℕ) (r : Spot) → Sought s letter name line → r ≡ name_spot s line → r.at + r.len ≤ length s → NameOf s letter name r
   name_of line r k e i = record {
     settled = e ∙ ap (name_spot s) k.settled;
     reads = ap (text_at s) e ∙ reads-name line k ∙ ap (named name) k.answers;
     inside = i;
   }
     where
-      reads-name : (line : Found) → Sought s letter name line → text_at s (name_spot s line) ≡ named name (answer_at s line)
-      reads-name Nothing k = refl
-      reads-name (At at) k = ap Reply.told (name-text s at k.placed.form ∙ found_name at k)
+      reads-name : (line : Option ℕ) → Sought s letter name line → text_at s (name_spot s line) ≡ named name (answer_at s line)
+      reads-name None k = refl
+      reads-name (Some at) k = ap Reply.told (name-text s at k.placed.form ∙ found_name at k)
 
   -- and its value is what the sheet replies
-  pub value_of : (line : Found) (r : Spot) → Sought s letter name line → r ≡ value_spot s line → r.at + r.len ≤ length s → ValueOf s letter name r
+  pub value_of : (line : Option ℕ) (r : Spot) → Sought s letter name line → r ≡ value_spot s line → r.at + r.len ≤ length s → ValueOf s letter name r
   value_of line r k e i = record {
     settled = e ∙ ap (value_spot s) k.settled;
     reads = ap (text_at s) e ∙ reads-value line k ∙ k.answers;
     inside = i;
   }
     where
-      reads-value : (line : Found) → Sought s letter name line → text_at s (value_spot s line) ≡ answer_at s line
-      reads-value Nothing k = refl
-      reads-value (At at) k = ap Reply.told (value-text s at k.placed.form)
+      reads-value : (line : Option ℕ) → Sought s letter name line → text_at s (value_spot s line) ≡ answer_at s line
+      reads-value None k = refl
+      reads-value (Some at) k = ap Reply.told (value-text s at k.placed.form)
 
 abbrev spot : ℕ → ℕ → Spot
 spot from len = record { found = true; at = from; len = len }
 
 -- the parts between the ends that were found
 module _ (s : List ℕ) (at end : ℕ) (p : end ≡ name_end s at) where
-  pub name-spot : record { found = true; at = at + 3; len = end - (at + 3) } ≡ name_spot s (At at)
+  pub name-spot : record { found = true; at = at + 3; len = end - (at + 3) } ≡ name_spot s (Some at)
   name-spot = let n : end - (at + 3) ≡ length (line_at s at).name = omega arith in ap (spot (at + 3)) n
 
-  pub value-spot : (to : ℕ) → to ≡ value_end s at → record { found = true; at = end + 2; len = to - (end + 2) } ≡ value_spot s (At at)
+  pub value-spot : (to : ℕ) → to ≡ value_end s at → record { found = true; at = end + 2; len = to - (end + 2) } ≡ value_spot s (Some at)
   value-spot to q =
       let n : to - (end + 2) ≡ length (line_at s at).value = omega arith in
       ap (spot (end + 2)) n ∙ ap (λ (x : ℕ). spot (x + 2) (length (line_at s at).value)) p

@@ -1,4 +1,5 @@
 -- Why 13 rounds are enough, and what one round of the search does. The proof of `seek` cites it. Assumes nothing.
+use Rattle.std.specs.Prelude.{None, Some}
 use mathlib.Core.Path.{◌≡◌, refl, sym, ap, ◌∙◌}
 use mathlib.Core.Bool.{Bool, true, false}
 use mathlib.Core.List.{List, [], ◌∷◌}
@@ -9,11 +10,10 @@ use lib.Seq.{take-nil, take-take, drop-drop, get_or-drop, get_or-take}
 use lib.Dec.{eqb}
 use borrow.Author.Tests.{eqb-true, eqb-false, eq-eqb, ne_eqb}
 use Rattle.runs.specs.Runs.{pick, cmp}
-use Rattle.runs.specs.declared.Order.{Order}
-use Rattle.runs.specs.declared.Order.TheVariants.{Less, Equal, Greater}
+use Rattle.std.specs.declared.cmp.Ordering.{Ordering}
+use Rattle.std.specs.declared.cmp.Ordering.TheVariants.{Less, Equal, Greater}
 use Rattle.sheet.specs.Forms.{key}
 use Rattle.sheet.specs.Lines.{line_at}
-use Rattle.lookup.specs.declared.search.Found.TheVariants.{At, Nothing}
 use Rattle.lookup.specs.Search.{place_in, judge, asked}
 use Rattle.sheet.proofs.Accepted.{GoesUp, up_drop, up_take}
 use Rattle.lookup.proofs.Halves.{place_up, place_down, place_here}
@@ -32,7 +32,7 @@ double zero = 1
 double (suc k) = double k + double k
 
 module _ (s q : List ℕ) where
-  pub empty_place : (places : List ℕ) → length places ≡ 0 → place_in s places q ≡ Nothing
+  pub empty_place : (places : List ℕ) → length places ≡ 0 → place_in s places q ≡ None
   empty_place [] h = refl
   empty_place (at ∷ places) h = absurd (omega arith)
 
@@ -45,12 +45,12 @@ module _ (s q : List ℕ) where
       (λ l. enough k last (drop (suc n) places) (up_drop s last (suc n) places g) l)
       (λ l. enough k last (take n places) (up_take s last n places g) l)
     where
-      go : (b : Bool) → eqb (length places) 0 ≡ b → (o : Order) → cmp (key (line_at s (get_or places (length places / 2) 0))) q ≡ o →
+      go : (b : Bool) → eqb (length places) 0 ≡ b → (o : Ordering) → cmp (key (line_at s (get_or places (length places / 2) 0))) q ≡ o →
           (length (drop (suc (length places / 2)) places) < double k →
           asked k s (drop (suc (length places / 2)) places) q ≡ place_in s (drop (suc (length places / 2)) places) q) →
           (length (take (length places / 2) places) < double k →
           asked k s (take (length places / 2) places) q ≡ place_in s (take (length places / 2) places) q) →
-          pick b Nothing (judge o (asked k s (drop (suc (length places / 2)) places) q) (At (get_or places (length places / 2) 0))
+          pick b None (judge o (asked k s (drop (suc (length places / 2)) places) q) (Some (get_or places (length places / 2) 0))
           (asked k s (take (length places / 2) places) q)) ≡ place_in s places q
       go true e o f up down = sym (empty_place places (eqb-true _ _ e))
       go false e Less f up down =
@@ -64,12 +64,12 @@ module _ (s q : List ℕ) where
           down (simp length-take (omega arith)) ∙ sym (place_down s q last places (length places / 2) g (omega arith) f)
 
   -- one round, on the lines from number lo on that come before number hi; the line in the middle begins at byte `at`
-  pub asked-none : (k : ℕ) (places : List ℕ) → length places ≡ 0 → asked k s places q ≡ Nothing
+  pub asked-none : (k : ℕ) (places : List ℕ) → length places ≡ 0 → asked k s places q ≡ None
   unfolding asked
   asked-none zero places h = refl
   asked-none (suc k) places h = rw (eq-eqb _ _ h)
 
-  pub asked_spent : (k : ℕ) (places : List ℕ) → k ≡ 0 → asked k s places q ≡ Nothing
+  pub asked_spent : (k : ℕ) (places : List ℕ) → k ≡ 0 → asked k s places q ≡ None
   unfolding asked
   asked_spent zero places h = refl
   asked_spent (suc k) places h = absurd (omega arith)
@@ -77,15 +77,15 @@ module _ (s q : List ℕ) where
   asked_round : (k : ℕ) (places : List ℕ) → 0 < k → (length places ≡ 0 → ⊥) →
       asked k s places q ≡
       judge (cmp (key (line_at s (get_or places (length places / 2) 0))) q) (asked (k - 1) s (drop (suc (length places / 2)) places) q)
-      (At (get_or places (length places / 2) 0)) (asked (k - 1) s (take (length places / 2) places) q)
+      (Some (get_or places (length places / 2) 0)) (asked (k - 1) s (take (length places / 2) places) q)
   unfolding asked
   asked_round zero places z h = absurd (omega arith)
   asked_round (suc k) places z h = let p : suc k - 1 ≡ k = omega arith in rw (ne_eqb _ _ h, p)
 
-  round : (starts : List ℕ) (left lo hi mid at : ℕ) (x o : Order) → 0 < left → lo < hi → hi ≤ length starts →
+  round : (starts : List ℕ) (left lo hi mid at : ℕ) (x o : Ordering) → 0 < left → lo < hi → hi ≤ length starts →
       mid ≡ lo + (hi - lo) / 2 → at ≡ get_or starts mid 0 → x ≡ cmp (key (line_at s at)) q → x ≡ o →
       asked left s (drop lo (take hi starts)) q ≡
-      judge o (asked (left - 1) s (drop (mid + 1) (take hi starts)) q) (At at) (asked (left - 1) s (drop lo (take mid starts)) q)
+      judge o (asked (left - 1) s (drop (mid + 1) (take hi starts)) q) (Some at) (asked (left - 1) s (drop lo (take mid starts)) q)
   round starts left lo hi mid at x o z l h m a e i =
       let es = drop lo (take hi starts) in
       let n : length es ≡ hi - lo = simp (length-drop, length-take) (omega arith) in
@@ -100,16 +100,16 @@ module _ (s q : List ℕ) where
       ap (λ (x : ℕ). take x es) k ∙ take-between lo ((hi - lo) / 2) hi mid starts m (omega arith) in
       let f : cmp (key (line_at s (get_or es (length es / 2) 0))) q ≡ o = ap (λ (y : ℕ). cmp (key (line_at s y)) q) w ∙ sym e ∙ i in
       asked_round left es z (λ y. omega arith)
-      ∙ ap (λ (y : Order). judge y (asked (left - 1) s (drop (suc (length es / 2)) es) q) (At (get_or es (length es / 2) 0))
+      ∙ ap (λ (y : Ordering). judge y (asked (left - 1) s (drop (suc (length es / 2)) es) q) (Some (get_or es (length es / 2) 0))
       (asked (left - 1) s (take (length es / 2) es) q)) f
       ∙ rw (w, up, down)
 
   -- the same where the rounds are counted, of n at most
-  pub round_counted : (n : ℕ) (starts : List ℕ) (rounds lo hi mid at : ℕ) (x o : Order) → rounds < n → lo < hi → hi ≤ length starts →
+  pub round_counted : (n : ℕ) (starts : List ℕ) (rounds lo hi mid at : ℕ) (x o : Ordering) → rounds < n → lo < hi → hi ≤ length starts →
       mid ≡ lo + (hi - lo) / 2 → at ≡ get_or starts mid 0 → x ≡ cmp (key (line_at s at)) q → x ≡ o →
       asked (n - rounds) s (drop lo (take hi starts)) q ≡
-      judge o (asked (n - (rounds + 1)) s (drop (mid + 1) (take hi starts)) q) (At at) (asked (n - (rounds + 1)) s (drop lo (take mid starts)) q)
+      judge o (asked (n - (rounds + 1)) s (drop (mid + 1) (take hi starts)) q) (Some at) (asked (n - (rounds + 1)) s (drop lo (take mid starts)) q)
   round_counted n starts rounds lo hi mid at x o z l h m a e i =
       let k : n - rounds - 1 ≡ n - (rounds + 1) = omega arith in
       round starts (n - rounds) lo hi mid at x o (omega arith) l h m a e i
-      ∙ ap (λ (y : ℕ). judge o (asked y s (drop (mid + 1) (take hi starts)) q) (At at) (asked y s (drop lo (take mid starts)) q)) k
+      ∙ ap (λ (y : ℕ). judge o (asked y s (drop (mid + 1) (take hi starts)) q) (Some at) (asked y s (drop lo (take mid starts)) q)) k

@@ -1,5 +1,6 @@
 -- What the answer of 13 rounds says of an indexed sheet: the place, the reply, the line that stands there.
 -- The proof of `seek` cites it. Assumes nothing.
+use Rattle.std.specs.Prelude.{None, Option, Some}
 use mathlib.Core.Path.{◌≡◌, sym, ap, subst, ◌∙◌}
 use mathlib.Core.Bool.{true}
 use mathlib.Core.List.{List, []}
@@ -9,8 +10,6 @@ use lib.ListN.{length, drop, get_or}
 use Rattle.sheet.specs.Forms.{is_form, key_of}
 use Rattle.sheet.specs.Lines.{starts_of}
 use Rattle.sheet.specs.Replies.{reply, Indexed}
-use Rattle.lookup.specs.declared.search.Found.{Found}
-use Rattle.lookup.specs.declared.search.Found.TheVariants.{At, Nothing}
 use Rattle.sheet.specs.Limits.{enough_rounds}
 use Rattle.lookup.specs.Search.{asked, place_in, place_of, answer_at, Placed, Sought}
 use Rattle.sheet.proofs.Accepted.{accepted_up, up_form, up_member}
@@ -24,14 +23,14 @@ indexed-form s starts i x h =
     let k : i < length (starts_of s) = rw x.listed at h in
     rw x.listed (up_form s [] (starts_of s) i (accepted_up s x.accepted) k)
 
-placed : (s : List ℕ) (letter : ℕ) (name starts : List ℕ) (r : Found) → Indexed s starts → r ≡ place_of s letter name → Placed s letter name r
+placed : (s : List ℕ) (letter : ℕ) (name starts : List ℕ) (r : Option ℕ) → Indexed s starts → r ≡ place_of s letter name → Placed s letter name r
 unfolding place_of
-placed s letter name starts Nothing x e = tt
-placed s letter name starts (At at) x e =
+placed s letter name starts None x e = tt
+placed s letter name starts (Some at) x e =
     let a = place_asks s (key_of letter name) (starts_of s) at (sym e) in
     record { line = a.0; form = up_member s [] (starts_of s) at (accepted_up s x.accepted) a.0; asks = a.1 }
 
-pub sought : (s starts : List ℕ) (letter : ℕ) (name : List ℕ) (r : Found) → Indexed s starts →
+pub sought : (s starts : List ℕ) (letter : ℕ) (name : List ℕ) (r : Option ℕ) → Indexed s starts →
     r ≡ asked enough_rounds s starts (key_of letter name) → Sought s letter name r
 unfolding place_of reply
 sought s starts letter name r x e =
@@ -46,7 +45,7 @@ sought s starts letter name r x e =
     }
 
 -- the same of the line that all lines give
-pub sought_placed : (s starts : List ℕ) (letter : ℕ) (name : List ℕ) (r : Found) → Indexed s starts →
+pub sought_placed : (s starts : List ℕ) (letter : ℕ) (name : List ℕ) (r : Option ℕ) → Indexed s starts →
     r ≡ place_in s starts (key_of letter name) → Sought s letter name r
 sought_placed s starts letter name r x e =
     let f : length (starts_of s) < double enough_rounds = omega (arith, few-lines s x.accepted) in

@@ -1,5 +1,5 @@
 -- Parts of a sheet that a question's line holds, and the kind that a sheet gives a suffix. Assumes nothing.
-use Rattle.std.specs.Prelude.{ℕ, ◌+◌, ◌≤◌, ◌≡◌, true, false, List, [], ◌∷◌, length, take, drop}
+use Rattle.std.specs.Prelude.{ℕ, ◌+◌, ◌≤◌, ◌≡◌, true, false, List, [], ◌∷◌, length, take, drop, None, Option, Some}
 use Rattle.runs.specs.Runs.{pick, same_text}
 use Rattle.sheet.specs.Forms.{is_form}
 use Rattle.sheet.specs.Lines.{line_at}
@@ -8,8 +8,6 @@ use Rattle.sheet.specs.Replies.{Reply, unknown, told, reply}
 use Rattle.lookup.specs.declared.answers.Spot.{Spot}
 use Rattle.lookup.specs.declared.answers.SheetKind.{SheetKind}
 use Rattle.lookup.specs.declared.answers.SheetKind.TheVariants.{Unlisted, Post, Comp}
-use Rattle.lookup.specs.declared.search.Found.{Found}
-use Rattle.lookup.specs.declared.search.Found.TheVariants.{At, Nothing}
 use Rattle.lookup.specs.Search.{place_of}
 
 -- what a part of the sheet reads
@@ -20,19 +18,19 @@ abbrev pub no_spot : Spot
 no_spot = record { found = false; at = 0; len = 0 }
 
 -- where the value stands in the line found
-abbrev pub value_spot : List ℕ → Found → Spot
-value_spot s Nothing = no_spot
-value_spot s (At at) = record { found = true; at = name_end s at + 2; len = length (line_at s at).value }
+abbrev pub value_spot : List ℕ → Option ℕ → Spot
+value_spot s None = no_spot
+value_spot s (Some at) = record { found = true; at = name_end s at + 2; len = length (line_at s at).value }
 
 -- where the name stands in the line found
-abbrev pub name_spot : List ℕ → Found → Spot
-name_spot s Nothing = no_spot
-name_spot s (At at) = record { found = true; at = at + 3; len = length (line_at s at).name }
+abbrev pub name_spot : List ℕ → Option ℕ → Spot
+name_spot s None = no_spot
+name_spot s (Some at) = record { found = true; at = at + 3; len = length (line_at s at).name }
 
 -- a form stands where a line was found
-abbrev pub FormAt : List ℕ → Found → Type 0
-FormAt s Nothing = Unit {0}
-FormAt s (At at) = is_form (drop at s) ≡ true
+abbrev pub FormAt : List ℕ → Option ℕ → Type 0
+FormAt s None = Unit {0}
+FormAt s (Some at) = is_form (drop at s) ≡ true
 
 -- the part that holds the value of the question's line: settled, read as the sheet replies, and inside the sheet
 pub record ValueOf (s : List ℕ) (letter : ℕ) (name : List ℕ) (r : Spot) : Type 0 where

@@ -1,8 +1,8 @@
 -- Names of a first letter that begin alike: their lines stand together in a sheet, from one line's number up to another's.
 -- Assumes nothing.
 use Rattle.std.specs.Prelude.{ℕ, ◌-◌, ◌≤◌, ◌<◌, ◌≡◌, List, length, get_or}
-use Rattle.runs.specs.declared.Order.{Order}
-use Rattle.runs.specs.declared.Order.TheVariants.{Less, Equal, Greater}
+use Rattle.std.specs.declared.cmp.Ordering.{Ordering}
+use Rattle.std.specs.declared.cmp.Ordering.TheVariants.{Less, Equal, Greater}
 use Rattle.sheet.specs.Forms.{key, key_of}
 use Rattle.sheet.specs.Lines.{line_at}
 use Rattle.sheet.specs.Keys.{headed}
@@ -10,7 +10,7 @@ use Rattle.lookup.specs.declared.begins.Range.{Range}
 use Rattle.lookup.specs.declared.begins.Edge.{Edge}
 
 -- how line number i stands to all lines of the letter whose names begin with head: equal if it is one of them
-abbrev pub headed_at : List ℕ → List ℕ → ℕ → List ℕ → ℕ → Order
+abbrev pub headed_at : List ℕ → List ℕ → ℕ → List ℕ → ℕ → Ordering
 headed_at s starts letter head i = headed (key (line_at s (get_or starts i 0))) (key_of letter head)
 
 -- the lines whose names begin with head are just those from number lo on and before number hi: the line before them stands below all

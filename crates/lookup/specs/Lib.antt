@@ -1,6 +1,7 @@
 -- To be believed: what the statements of the entries and the promises say.
 pub mod Answers
 -- Machinery: what contracts inside say on the way. Whoever reads the promises need not read it.
+pub mod Lexicons
 pub mod Starts
 pub mod Search
 pub mod Begins

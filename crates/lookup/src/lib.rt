@@ -3,6 +3,7 @@
 
 pub mod answers;
 pub mod begins;
+pub mod lexicon;
 pub mod lines;
 pub mod search;
 pub mod starts;

@@ -1,72 +1,34 @@
-// The check of a word and of a sheet for all that is asked of them: the sheet is read once, and the first byte of each line is stored on
-// the way.
-ghost use Rattle.std.specs.Prelude.{◌≡◌};
-ghost use Rattle.text.specs.Word.{word_check};
-ghost use Rattle.sheet.specs.Inputs.{by_word_then};
+// The check of a sheet for all that is asked of it: the sheet is read once, and the first byte of each line is stored on the way.
+ghost use Rattle.std.specs.Prelude.{◌≡◌, Ok, Err, MatchResult};
+ghost use Rattle.sheet.specs.Lines.{sheet_check};
 ghost use Rattle.lookup.specs.Starts.{Room};
-ghost use Rattle.lookup.specs.Stored.{Stored, SheetReady};
+ghost use Rattle.lookup.specs.Stored.{Stored};
+ghost use Rattle.lookup.specs.Lexicons.{Asked};
 
+use crate::lexicon::Lexicon;
 use crate::starts::Start;
-use refusals::Refusal;
-use sheet::check::SheetCheck;
-use sheet::inputs::Inputs;
-use sheet::limits::SHEET_BYTES;
-use sheet::walk::{Before, Reached, Walk};
-use text::word::{WordCheck, check_word};
+use sheet::check::SheetFault;
+use sheet::limits::{ALL_STARTS, FEW_STARTS, SHEET_BYTES, SMALL_BYTES};
+use sheet::walk::{Reached, Walk};
 
-// What is said of a sheet, and of how many lines the first byte is stored.
-#[derive(Clone, Copy)]
-pub struct Checked {
-    pub said: SheetCheck,
-    pub lines: usize,
-}
-
-// What is said of a word and a sheet together, and of how many lines the first byte is stored.
-#[derive(Clone, Copy)]
-pub struct Ready {
-    pub inputs: Inputs,
-    pub lines: usize,
-}
-
-// The check of a sheet, as `sheet::check::check_sheet` makes it. The first bytes of its lines are stored at the front of `out`, which has
-// room for a line of every 10 bytes: of all lines, or of those before the faulty one.
-pub fn check_lines(s: &[u8], out: &mut [Start]) -> Checked
+// The check of a sheet, as `sheet::check::check_sheet` makes it, which gives how many lines there are. Their first bytes are stored at the
+// front of `out`, which has room for a line of every 10 bytes: of all lines, or of those before the faulty one.
+pub fn check_lines(s: &[u8], out: &mut [Start]) -> Result<usize, SheetFault>
     requires { Room s.now out.old }
     ensures { Stored s.now out.old out.new result }
 {
     if SHEET_BYTES < s.len() {
-        return Checked {
-            said: SheetCheck::TooLong,
-            lines: 0,
-        };
+        return Err(SheetFault::TooLong);
     }
     let mut n: usize = 0;
-    let mut walk = Walk {
-        at: 0,
-        last: Before::Nothing,
-    };
+    let mut walk = Walk { at: 0, last: None };
     loop {
         let at = walk.at;
         let line = walk.step(s);
         match line {
-            Reached::End => {
-                return Checked {
-                    said: SheetCheck::Accepted,
-                    lines: n,
-                };
-            }
-            Reached::NoForm => {
-                return Checked {
-                    said: SheetCheck::NoForm(at),
-                    lines: n,
-                };
-            }
-            Reached::NotAbove => {
-                return Checked {
-                    said: SheetCheck::NotAbove(at),
-                    lines: n,
-                };
-            }
+            Reached::End => return Ok(n),
+            Reached::NoForm => return Err(SheetFault::NoForm(at)),
+            Reached::NotAbove => return Err(SheetFault::NotAbove(at)),
             Reached::Form {
                 letter: _,
                 name_end: _,
@@ -81,55 +43,34 @@ pub fn check_lines(s: &[u8], out: &mut [Start]) -> Checked
     }
 }
 
-// The sheet's half of the check: what is said of a sheet with any word that is accepted. The first bytes of its lines are stored at the
-// front of `out`, as `check_lines` does it.
-pub fn prepare_sheet(sheet: &[u8], out: &mut [Start]) -> Ready
-    requires { Room sheet.now out.old }
-    ensures { SheetReady sheet.now out.old out.new result }
+// What is asked of a sheet, with a list that has room for the starts of its lines.
+fn asked<R, F: FnOnce(&Lexicon<'_>) -> R>(
+    sheet: &[u8],
+    starts: &mut [Start],
+    ask: F,
+) -> Result<R, SheetFault>
+    requires room { Room sheet.now starts.old }
+    requires callable { F.IsAlwaysCallable ask }
+    ensures { MatchResult result (λ r. Asked sheet.now (λ l. F.post ask l r)) (λ fault. sheet_check sheet.now ≡ Err fault) }
 {
-    let checked = check_lines(sheet, out);
-    let lines = checked.lines;
-    let said = checked.said;
-    match said {
-        SheetCheck::Accepted => Ready {
-            inputs: Inputs::Accepted,
-            lines,
-        },
-        SheetCheck::TooLong => Ready {
-            inputs: Inputs::Refused(Refusal::SheetTooLong),
-            lines,
-        },
-        SheetCheck::NoForm(at) => Ready {
-            inputs: Inputs::Refused(Refusal::SheetNoForm(at)),
-            lines,
-        },
-        SheetCheck::NotAbove(at) => Ready {
-            inputs: Inputs::Refused(Refusal::SheetNotAbove(at)),
-            lines,
-        },
-    }
+    let lines = check_lines(sheet, starts)?;
+    let lexicon = Lexicon {
+        bytes: sheet,
+        starts: &starts[..lines],
+    };
+    Ok(ask(&lexicon))
 }
 
-// The word's half of the check: what is said of a word with any sheet that is accepted.
-pub fn prepare_word(word: &[u8]) -> Inputs
-    ensures { result ≡ by_word_then (word_check word.now) Inputs.Accepted }
+// What is asked of a sheet: the answer where it is accepted, else its fault. The sheet is checked once, before it is asked. A list for the
+// lines of any sheet is 13 KB to clear, which a small sheet is spared.
+pub fn with_lexicon<R, F: FnOnce(&Lexicon<'_>) -> R>(sheet: &[u8], ask: F) -> Result<R, SheetFault>
+    requires { F.IsAlwaysCallable ask }
+    ensures { MatchResult result (λ r. Asked sheet.now (λ l. F.post ask l r)) (λ fault. sheet_check sheet.now ≡ Err fault) }
 {
-    let said = check_word(word);
-    match said {
-        WordCheck::TooLong => Inputs::Refused(Refusal::WordTooLong),
-        WordCheck::NotUtf8 => Inputs::Refused(Refusal::WordNotUtf8),
-        WordCheck::Forbidden => Inputs::Refused(Refusal::WordForbidden),
-        WordCheck::Accepted => Inputs::Accepted,
+    if sheet.len() <= SMALL_BYTES {
+        let mut few: [Start; FEW_STARTS] = [0; FEW_STARTS];
+        return asked(sheet, &mut few, ask);
     }
-}
-
-// Why a word is refused together with a sheet that is refused: the word's reason, whose number is lower, else the sheet's.
-pub fn first_refusal(word: &[u8], sheet_refusal: Refusal) -> Refusal
-    ensures { Inputs.Refused result ≡ by_word_then (word_check word.now) (Inputs.Refused sheet_refusal) }
-{
-    let inputs = prepare_word(word);
-    match inputs {
-        Inputs::Refused(refusal) => refusal,
-        Inputs::Accepted => sheet_refusal,
-    }
+    let mut starts: [Start; ALL_STARTS] = [0; ALL_STARTS];
+    asked(sheet, &mut starts, ask)
 }

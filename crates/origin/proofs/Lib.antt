@@ -1,6 +1,5 @@
 pub mod Marked
 pub mod Stems
-pub mod Decided
 pub mod Contained
 pub mod Alike
 pub mod Worked

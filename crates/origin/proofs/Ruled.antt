@@ -8,14 +8,14 @@ use mathlib.Core.List.{List, [], ◌∷◌, ◌++◌}
 use lib.ListN.{length, drop, get_or, drop_of_length-le}
 use lib.Seq.{get_or-drop, drop-cons}
 use lib.Dec.{ltb, leb}
-use borrow.Author.Tests.{eq-eqb, ne_eqb, leb-true, ltb-true, le-ltb}
+use borrow.Author.Tests.{leb-true, ltb-true, le-ltb}
 use Rattle.runs.specs.Runs.{pick, same_text, begins_with, ends_in}
 use Rattle.runs.proofs.Begins.{begins-front, and_left, and_right}
 use Rattle.runs.proofs.Ordered.{same_true}
 use Rattle.tables.specs.Rows.{strip_suffixes, origin_words, origin_tags}
 use Rattle.tables.specs.Origins.{origin_in, origin_of}
 use Rattle.tables.specs.declared.origins.Origin.{Origin}
-use Rattle.tables.specs.declared.origins.OriginFound.TheVariants.{Unlisted}
+use Rattle.std.proofs.Common.{None}
 use Rattle.tables.proofs.Compared.{ends_is}
 use Rattle.tables.proofs.Tested.{every}
 use Rattle.strips.specs.Suffix.{sheds, plain, shared, remainders, first_length}
@@ -27,20 +27,7 @@ use Rattle.origin.specs.declared.kosha.Known.{Known}
 use Rattle.origin.specs.declared.kosha.Known.TheVariants.{NotKnown}
 use Rattle.origin.specs.Quick.{last_bytes, ends_listed, may_list, opens_cluster, low_mark, high_mark, opens_mark, may_open, Opens, somewhere, may_mark, ends_strip, may_strip}
 
--- The code's tests, of a tail by the bytes of the word.
-
-pub opened : (w : List ℕ) (i a b v : ℕ) (r : Bool) → get_or w i 0 ≡ 0xE0 → a ≡ get_or w (i + 1) 0 → b ≡ get_or w (i + 2) 0 → v ≡ get_or w (i + 5) 0
-    → r ≡ opens_mark a b v → r ≡ may_open (drop i w)
-unfolding may_open
-opened w i a b v r h p q s e =
-    let z : get_or (drop i w) 0 0 ≡ 0xE0 = get_or-drop i w 0 0 ∙ ap (λ (k : ℕ). get_or w k 0) (omega arith) ∙ h in
-    e ∙ rw (eq-eqb _ _ z, get_or-drop i w 1 0, get_or-drop i w 2 0, get_or-drop i w 5 0, p, q, s)
-
-pub not_opened : (w : List ℕ) (i : ℕ) → (get_or w i 0 ≡ 0xE0 → ⊥) → false ≡ may_open (drop i w)
-unfolding may_open
-not_opened w i h =
-    let z : get_or (drop i w) 0 0 ≡ get_or w i 0 = get_or-drop i w 0 0 ∙ ap (λ (k : ℕ). get_or w k 0) (omega arith) in
-    rw (ne_eqb (get_or (drop i w) 0 0) 0xE0 (λ e. h (sym z ∙ e)))
+-- A test of the tails, one by one.
 
 module _ (f : List ℕ → Bool) where
   pub some_at : (w : List ℕ) (i : ℕ) (b : Bool) → i < length w → b ≡ f (drop i w) → somewhere f (drop i w) ≡ (b || somewhere f (drop (i + 1) w))
@@ -100,9 +87,9 @@ pub aagantuk_opens : Opens aagantuk_marks
 unfolding aagantuk_marks may_open opens_mark low_mark high_mark opens_cluster
 aagantuk_opens = ((λ r. refl), ((λ r. refl), ((λ r. refl), ((λ r. refl), ((λ r. refl), ((λ r. refl), ((λ r. refl), ((λ r. refl), tt))))))))
 
-nukta-opens : (rest : List ℕ) → may_open (nukta ++ rest) ≡ true
+pub nukta_opens : Opens (nukta ∷ [])
 unfolding may_open opens_mark low_mark high_mark opens_cluster
-nukta-opens rest = refl
+nukta_opens = ((λ r. refl), tt)
 
 or_false : (a b : Bool) → (a || b) ≡ false → (a ≡ false) × (b ≡ false)
 or_false true b e = let z : ◌≡◌ {A = ℕ} 0 1 = cc in absurd (omega arith)
@@ -168,7 +155,7 @@ tail_shut (suc k) (b ∷ w) e = tail_shut k w (or_false (may_open (b ∷ w)) (so
 
 pub no_aagantuk : (w : List ℕ) → may_mark w ≡ false → has_aagantuk_markers w ≡ false
 unfolding may_mark has_aagantuk_markers contains_one
-no_aagantuk w e = rw (none_contained aagantuk_marks w aagantuk_opens e) (not_contained nukta (after_first w) nukta-opens empty_shut (tail_shut (first_length w) w e))
+no_aagantuk w e = rw (none_contained aagantuk_marks w aagantuk_opens e) (not_contained nukta (after_first w) nukta_opens.0 empty_shut (tail_shut (first_length w) w e))
 
 pub no_tatsam : (w : List ℕ) → may_mark w ≡ false → has_tatsam_markers w ≡ false
 unfolding may_mark has_tatsam_markers contains_one
@@ -231,7 +218,7 @@ listed_words : every (λ (k : ℕ) (t : List ℕ). may_list t) 0 origin_words �
 unfolding origin_words may_list ends_listed last_bytes
 listed_words = refl
 
-pub not_listed : (w : List ℕ) → may_list w ≡ false → Unlisted ≡ origin_of w
+pub not_listed : (w : List ℕ) → may_list w ≡ false → None ≡ origin_of w
 unfolding origin_of
 not_listed w e = sym (over origin_words origin_tags 0 listed_words)
   where
@@ -242,7 +229,7 @@ not_listed w e = sym (over origin_words origin_tags 0 listed_words)
         by false q = refl
         by true q = sym h ∙ ap may_list (same_true r w q) ∙ e
 
-    over : (rs : List (List ℕ)) (tags : List Origin) (k : ℕ) → every (λ (k : ℕ) (t : List ℕ). may_list t) k rs ≡ true → origin_in rs tags w ≡ Unlisted
+    over : (rs : List (List ℕ)) (tags : List Origin) (k : ℕ) → every (λ (k : ℕ) (t : List ℕ). may_list t) k rs ≡ true → origin_in rs tags w ≡ None
     over [] tags k h = refl
     over (r ∷ rs) [] k h = refl
     over (r ∷ rs) (o ∷ tags) k h =

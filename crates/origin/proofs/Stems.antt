@@ -1,4 +1,6 @@
 -- Laws of what is known of a word's remainders: those under one suffix, and those under each suffix of the table. Assumes nothing.
+use Rattle.std.specs.Prelude.{Option, Some, None}
+use Rattle.tables.specs.declared.origins.Origin.{Origin}
 use mathlib.Core.Path.{◌≡◌, refl, sym, ap, ◌∙◌}
 use mathlib.Core.Bool.{Bool, true}
 use mathlib.Core.List.{List, [], ◌∷◌, ◌++◌, append-nil}
@@ -10,9 +12,9 @@ use lib.Seq.{drop-cons}
 use lib.Dec.{ltb}
 use borrow.Author.Tests.{lt-ltb}
 use Rattle.runs.specs.Runs.{pick}
-use Rattle.strips.specs.Suffix.{rests_of, fronts}
+use Rattle.strips.specs.Suffix.{rests_of, front, fronts}
 use Rattle.strips.specs.declared.suffix.Rests.{Rests}
-use Rattle.strips.proofs.Remainders.{Inside, rests_say, rests_inside}
+use Rattle.strips.proofs.Remainders.{shared_with_plain, Inside, rests_say, rests_inside}
 use Rattle.sheet.specs.Replies.{Ask, reply, letters_told, letters_for}
 use Rattle.sheet.specs.declared.letters.Letters.{Letters}
 use Rattle.origin.specs.Decisions.{if_untagged, known_in, known_by, or_else, first_known, known_rest, known_under}
@@ -21,12 +23,16 @@ use Rattle.origin.specs.declared.kosha.Known.TheVariants.{Tagged, Headword, NotK
 
 -- One name: what its letters say.
 
-pub told : (s name : List ℕ) (l : Letters) (b : Bool) → l ≡ letters_for s (name ++ []) → l.head ≡ b
-    → if_untagged (pick b Headword NotKnown) l.tag ≡ known_by (reply s) name
+-- t and b are what was found of tag and headword
+pub told : (s name : List ℕ) (l : Letters) (t : Option Origin) (b : Bool) → l ≡ letters_for s (name ++ []) → l.tag ≡ t → l.head ≡ b
+    → if_untagged (pick b Headword NotKnown) t ≡ known_by (reply s) name
 unfolding known_by known_in letters_for
-told s name l b e h =
+told s name l t b e f h =
     let z : l ≡ letters_told (reply s 0x77 name) = e ∙ ap (λ (n : List ℕ). letters_told (reply s 0x77 n)) (append-nil name) in
-    ap (λ (x : Bool). if_untagged (pick x Headword NotKnown) l.tag) (sym h) ∙ ap known_in z
+    ap (λ (x : Option Origin). if_untagged (pick b Headword NotKnown) x) (sym f) ∙ ap (λ (x : Bool). if_untagged (pick x Headword NotKnown) l.tag) (sym h) ∙ ap known_in z
+
+pub tagged : (s name : List ℕ) (l : Letters) (o : Origin) → l ≡ letters_for s (name ++ []) → l.tag ≡ Some o → Tagged o ≡ known_by (reply s) name
+tagged s name l o e f = told s name l (Some o) l.head e f refl
 
 -- One turn of the walk over suffixes.
 
@@ -36,6 +42,12 @@ module _ (f : List ℕ → Known) (rows : List (List ℕ)) (k : ℕ) where
 
   pub first-end : length rows ≤ k → first_known f (drop k rows) ≡ NotKnown
   first-end h = rw (drop_of_length-le rows h)
+
+-- what is known of one stops the walk
+pub stops : (x rest : Known) → (x ≡ NotKnown → ⊥) → or_else x rest ≡ x
+stops (Tagged o) rest n = refl
+stops Headword rest n = refl
+stops NotKnown rest n = absurd (n refl)
 
 -- Under one suffix: the remainders by the lengths that the code has of them.
 
@@ -53,28 +65,26 @@ module _ (ask : Ask) (w suffix : List ℕ) (r : Rests) (e : r ≡ rests_of w suf
   pub under_inside : Inside w r
   under_inside = rw e (rests_inside w suffix)
 
-  pub under_none : r.count ≡ 0 → NotKnown ≡ known_under ask w suffix
-  under_none n = rw n at under
+  -- p and q are what was found of both
+  under_by : (p q : Option ℕ) → r.plain ≡ p → r.shared ≡ q → first_known (known_rest ask) (front w p ++ front w q) ≡ known_under ask w suffix
+  under_by p q f g = rw (f, g) at under
+
+  -- there is none
+  pub under_none : r.plain ≡ None → NotKnown ≡ known_under ask w suffix
+  under_none n = under_by None None n (rw (sym e) at (shared_with_plain w suffix (ap (λ (x : Rests). x.plain) (sym e) ∙ n)))
 
   -- something is known of the plain one
-  pub under_plain : (x y : Known) → (r.count ≡ 0 → ⊥) → x ≡ known_rest ask (take r.plain w) → x ≡ y → ((k : Known) → or_else y k ≡ y)
-      → y ≡ known_under ask w suffix
-  under_plain x y n p q h =
-      let z : ltb 0 r.count ≡ true = lt-ltb 0 r.count (omega arith) in
-      let s = pick (ltb 1 r.count) (take r.shared w ∷ []) [] in
-      let u : or_else (known_rest ask (take r.plain w)) (first_known (known_rest ask) s) ≡ known_under ask w suffix = rw z at under in
-      sym (h (first_known (known_rest ask) s)) ∙ ap (λ (k : Known). or_else k (first_known (known_rest ask) s)) (sym q ∙ p) ∙ u
+  pub under_plain : (n : ℕ) (y : Known) → r.plain ≡ Some n → y ≡ known_rest ask (take n w) → ((k : Known) → or_else y k ≡ y) → y ≡ known_under ask w suffix
+  under_plain n y f p h =
+      sym (h (first_known (known_rest ask) (front w r.shared))) ∙ ap (λ (k : Known). or_else k (first_known (known_rest ask) (front w r.shared))) p ∙ under_by (Some n) r.shared f refl
 
   -- nothing is, and there is no other
-  pub under_one : r.count ≡ 1 → NotKnown ≡ known_rest ask (take r.plain w) → NotKnown ≡ known_under ask w suffix
-  under_one n p = ap (λ (k : Known). or_else k NotKnown) p ∙ rw n at under
+  pub under_one : (n : ℕ) → r.plain ≡ Some n → r.shared ≡ None → NotKnown ≡ known_rest ask (take n w) → NotKnown ≡ known_under ask w suffix
+  under_one n f g p = ap (λ (k : Known). or_else k NotKnown) p ∙ under_by (Some n) None f g
 
   -- nothing is, and the shared one decides
-  pub under_two : (r.count ≡ 0 → ⊥) → (r.count ≡ 1 → ⊥) → NotKnown ≡ known_rest ask (take r.plain w)
-      → known_rest ask (take r.shared w) ≡ known_under ask w suffix
-  under_two n m p =
-      let y : ltb 0 r.count ≡ true = lt-ltb 0 r.count (omega arith) in
-      let z : ltb 1 r.count ≡ true = lt-ltb 1 r.count (omega arith) in
-      let u : or_else (known_rest ask (take r.plain w)) (or_else (known_rest ask (take r.shared w)) NotKnown) ≡ known_under ask w suffix = rw (y, z) at under in
-      sym (or_nothing (known_rest ask (take r.shared w)))
-      ∙ ap (λ (k : Known). or_else k (or_else (known_rest ask (take r.shared w)) NotKnown)) p ∙ u
+  pub under_two : (n m : ℕ) → r.plain ≡ Some n → r.shared ≡ Some m → NotKnown ≡ known_rest ask (take n w)
+      → known_rest ask (take m w) ≡ known_under ask w suffix
+  under_two n m f g p =
+      sym (or_nothing (known_rest ask (take m w)))
+      ∙ ap (λ (k : Known). or_else k (or_else (known_rest ask (take m w)) NotKnown)) p ∙ under_by (Some n) (Some m) f g

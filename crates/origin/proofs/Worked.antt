@@ -1,5 +1,8 @@
 -- Decisions and refusals worked by hand, as one list of inputs with their outcomes: that the definitions say what document 01 means.
 -- Assumes nothing.
+use Rattle.std.specs.Prelude.{Err, Ok, Result}
+use Rattle.refusals.specs.declared.Refusal.{Refusal}
+use Rattle.origin.specs.declared.OriginDecision.{OriginDecision}
 use mathlib.Core.Path.{◌≡◌, refl}
 use mathlib.Core.List.{List, [], ◌∷◌, ◌++◌, map}
 use Prim.Native.Nat.{ℕ}
@@ -21,8 +24,6 @@ use Rattle.origin.specs.Marks.{contains_one, ends_in_one, aagantuk_marks, nukta,
 use Rattle.origin.specs.Decisions.{none, by_mark, by_stem, by_word, sure, decided, known_in, known_by, known_rest, known_under, known_stem, decision_of}
 use Rattle.origin.specs.Answers.{decision_answer}
 use Rattle.origin.specs.declared.OriginSource.TheVariants.{Override, Kosha, Heuristic, Unknown}
-use Rattle.origin.specs.declared.entries.DecisionAnswer.{DecisionAnswer}
-use Rattle.origin.specs.declared.entries.DecisionAnswer.TheVariants.{Decided, Refused}
 
 -- घर
 abbrev ghar : List ℕ
@@ -70,7 +71,7 @@ record Input : Type 0 where
 abbrev input : List ℕ → List ℕ → Input
 input w s = record { word = w; sheet = s }
 
-abbrev answer : Input → DecisionAnswer
+abbrev answer : Input → Result OriginDecision Refusal
 answer i = decision_answer i.word i.sheet
 
 abbrev inputs : List Input
@@ -94,25 +95,25 @@ inputs =
     input [] (line ghar (0x77 ∷ []) ++ line ghar (0x77 ∷ [])) ∷  -- a second line that is a form, not above the first
     []
 
-abbrev outcomes : List DecisionAnswer
+abbrev outcomes : List (Result OriginDecision Refusal)
 outcomes =
-    Decided (decided Deshaj Unknown none) ∷
-    Decided (decided Tatsam Override sure) ∷
-    Decided (decided Tadbhav Kosha by_word) ∷
-    Decided (decided Deshaj Unknown none) ∷
-    Decided (decided Tatsam Kosha by_stem) ∷
-    Decided (decided Deshaj Unknown none) ∷
-    Decided (decided Tatsam Kosha by_stem) ∷
-    Decided (decided Tadbhav Heuristic by_mark) ∷
-    Decided (decided Tatsam Heuristic by_mark) ∷
-    Decided (decided Deshaj Unknown none) ∷
-    Decided (decided Aagantuk Heuristic by_mark) ∷
-    Decided (decided Tadbhav Heuristic by_mark) ∷
-    Decided (decided Deshaj Unknown none) ∷
-    Refused WordNotUtf8 ∷
-    Refused WordForbidden ∷
-    Refused (SheetNoForm 15) ∷
-    Refused (SheetNotAbove 15) ∷
+    Ok (decided Deshaj Unknown none) ∷
+    Ok (decided Tatsam Override sure) ∷
+    Ok (decided Tadbhav Kosha by_word) ∷
+    Ok (decided Deshaj Unknown none) ∷
+    Ok (decided Tatsam Kosha by_stem) ∷
+    Ok (decided Deshaj Unknown none) ∷
+    Ok (decided Tatsam Kosha by_stem) ∷
+    Ok (decided Tadbhav Heuristic by_mark) ∷
+    Ok (decided Tatsam Heuristic by_mark) ∷
+    Ok (decided Deshaj Unknown none) ∷
+    Ok (decided Aagantuk Heuristic by_mark) ∷
+    Ok (decided Tadbhav Heuristic by_mark) ∷
+    Ok (decided Deshaj Unknown none) ∷
+    Err WordNotUtf8 ∷
+    Err WordForbidden ∷
+    Err (SheetNoForm 15) ∷
+    Err (SheetNotAbove 15) ∷
     []
 
 pub worked : map answer inputs ≡ outcomes

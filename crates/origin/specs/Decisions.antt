@@ -1,6 +1,6 @@
 -- Where a word comes from, how that is known, and how surely (document 01, "origin.rs"): the first rule that applies. It is said of
 -- replies, so that two sheets which reply alike are the same to it. Assumes nothing.
-use Rattle.std.specs.Prelude.{ℕ, List, [], ◌∷◌, length, eqb, ltb, Float}
+use Rattle.std.specs.Prelude.{ℕ, List, [], ◌∷◌, length, eqb, ltb, Float, Option, Some, None}
 use Rattle.std.specs.Float.{binary32}
 use Rattle.std.specs.Float.Ieee.{of_bits}
 use Rattle.runs.specs.Runs.{pick}
@@ -9,12 +9,8 @@ use Rattle.tables.specs.Rows.{strip_suffixes}
 use Rattle.tables.specs.Origins.{origin_of}
 use Rattle.tables.specs.declared.origins.Origin.{Origin}
 use Rattle.tables.specs.declared.origins.Origin.TheVariants.{Tatsam, Tadbhav, Deshaj, Aagantuk}
-use Rattle.tables.specs.declared.origins.OriginFound.{OriginFound}
-use Rattle.tables.specs.declared.origins.OriginFound.TheVariants.{Listed, Unlisted}
 use Rattle.sheet.specs.Replies.{Ask, letters_by}
 use Rattle.sheet.specs.declared.letters.Letters.{Letters}
-use Rattle.sheet.specs.declared.letters.Tag.{Tag}
-use Rattle.sheet.specs.declared.letters.Tag.TheVariants as tags
 use Rattle.strips.specs.Suffix.{remainders}
 use Rattle.origin.specs.Marks.{heuristic_of}
 use Rattle.origin.specs.declared.OriginSource.{OriginSource}
@@ -47,12 +43,9 @@ abbrev pub no_evidence : OriginDecision
 no_evidence = decided Deshaj Unknown none
 
 -- What a sheet says of a name: its tag, that it is a headword without one, or neither.
-abbrev pub if_untagged : Known → Tag → Known
-if_untagged k tags.Untagged = k
-if_untagged k tags.Tatsam = Tagged Tatsam
-if_untagged k tags.Tadbhav = Tagged Tadbhav
-if_untagged k tags.Deshaj = Tagged Deshaj
-if_untagged k tags.Aagantuk = Tagged Aagantuk
+abbrev pub if_untagged : Known → Option Origin → Known
+if_untagged k None = k
+if_untagged k (Some origin) = Tagged origin
 
 unfoldable pub known_in : Letters → Known
 known_in l = if_untagged (pick l.head Headword NotKnown) l.tag
@@ -84,9 +77,9 @@ unfoldable pub known_stem : Ask → List ℕ → Known
 known_stem ask w = first_known (known_under ask w) strip_suffixes
 
 -- The rules, each with the decision of those that come after it.
-abbrev pub or_by_table : OriginFound → OriginDecision → OriginDecision
-or_by_table (Listed o) rest = decided o Override sure
-or_by_table Unlisted rest = rest
+abbrev pub or_by_table : Option Origin → OriginDecision → OriginDecision
+or_by_table (Some o) rest = decided o Override sure
+or_by_table None rest = rest
 
 abbrev pub or_by_kosha : Float → Known → OriginDecision → OriginDecision
 or_by_kosha f (Tagged o) rest = decided o Kosha f

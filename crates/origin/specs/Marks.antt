@@ -1,6 +1,6 @@
 -- The marks of a word's origin (document 01, "origin.rs"): texts that it contains, and texts in which it ends. A mark is its bytes;
 -- proofs/Contained.antt shows that in UTF-8 text, as every accepted word is, such bytes are whole characters. Assumes nothing.
-use Rattle.std.specs.Prelude.{ℕ, ◌-◌, Bool, false, ◌||◌, List, [], ◌∷◌, ◌++◌, map, take, drop}
+use Rattle.std.specs.Prelude.{ℕ, Bool, false, ◌||◌, List, [], ◌∷◌, ◌++◌, map, drop}
 use Rattle.runs.specs.Runs.{pick, begins_with, ends_in}
 use Rattle.strips.specs.Suffix.{first_length}
 use Rattle.tables.specs.declared.origins.Origin.{Origin}
@@ -24,12 +24,6 @@ begins_one ts w = some (λ t. begins_with t w) ts
 
 unfoldable pub ends_in_one : List (List ℕ) → List ℕ → Bool
 ends_in_one ts w = some (λ t. ends_in t w) ts
-
--- the texts that starts cut from a run of bytes: from each start up to the next
-abbrev pub cut : List ℕ → List ℕ → List (List ℕ)
-cut bytes [] = []
-cut bytes (a ∷ []) = []
-cut bytes (a ∷ b ∷ starts) = take (b - a) (drop a bytes) ∷ cut bytes (b ∷ starts)
 
 -- Aagantuk: U+0958 to U+095F anywhere,
 unfoldable pub aagantuk_marks : List (List ℕ)

@@ -2,15 +2,15 @@
 #![tactic(auto)]
 
 ghost use Rattle.std.specs.Prelude.{◌≡◌};
-ghost use Rattle.sheet.specs.Replies.{reply, Indexed};
+ghost use Rattle.lookup.specs.Lexicons.{replies};
 ghost use Rattle.tables.specs.Origins.{origin_of};
 ghost use Rattle.origin.specs.Decisions.{by_mark, by_stem, decided, no_evidence, known_stem, or_by_kosha, by_marks, decision_of};
 ghost use Rattle.origin.specs.Marks.{heuristic_of};
 
 use crate::kosha::Known;
 use crate::quick::may_list;
-use lookup::starts::Start;
-use tables::origins::{Origin, OriginFound};
+use lookup::lexicon::Lexicon;
+use tables::origins::{Origin, lookup_origin};
 
 pub mod entries;
 pub mod kosha;
@@ -18,7 +18,7 @@ pub mod marks;
 mod quick;
 
 // How an origin is known.
-#[derive(Clone, Copy)]
+#[derive(Clone, Copy, Debug, PartialEq, Eq)]
 pub enum OriginSource {
     Override,
     Kosha,
@@ -45,17 +45,15 @@ fn no_evidence() -> OriginDecision
     }
 }
 
-// The origin of the word in ORIGIN_TABLE, which is named here and lent to the search, if it can have the word.
-fn listed(word: &[u8]) -> OriginFound
+// The origin of the word in ORIGIN_TABLE, which is searched only for words that it can have.
+#[tactic(auto, using(crate::proofs::Ruled::not_listed))]
+fn listed(word: &[u8]) -> Option<Origin>
     ensures { result ≡ origin_of word.now }
 {
     if !may_list(word) {
-        return OriginFound::Unlisted;
+        return None;
     }
-    let words = tables::origin_words();
-    let starts = tables::origin_starts();
-    let tags = tables::origin_tags();
-    tables::origins::lookup_origin(&words, &starts, &tags, word)
+    lookup_origin(word)
 }
 
 // The decision where marks show the origin.
@@ -63,7 +61,7 @@ fn inferred(origin: Origin) -> OriginDecision
     ensures { result ≡ decided origin OriginSource.Heuristic by_mark }
 {
     OriginDecision {
-        origin: origin,
+        origin,
         source: OriginSource::Heuristic,
         confidence: 0.65,
     }
@@ -73,22 +71,17 @@ fn inferred(origin: Origin) -> OriginDecision
 fn by_marks(word: &[u8]) -> OriginDecision
     ensures { result ≡ by_marks (heuristic_of word.now) }
 {
-    let origin = marks::classify_heuristic(word);
-    match origin {
+    match marks::classify_heuristic(word) {
         Origin::Deshaj => no_evidence(),
-        Origin::Tatsam => inferred(Origin::Tatsam),
-        Origin::Tadbhav => inferred(Origin::Tadbhav),
-        Origin::Aagantuk => inferred(Origin::Aagantuk),
+        origin => inferred(origin),
     }
 }
 
 // The decision on the word by what is known of its remainders, or by its marks.
-// The sheet is accepted and `starts` is its list.
-fn by_stem(sheet: &[u8], starts: &[Start], word: &[u8]) -> OriginDecision
-    requires { Indexed sheet.now starts.now }
-    ensures { result ≡ or_by_kosha by_stem (known_stem (reply sheet.now) word.now) (by_marks (heuristic_of word.now)) }
+fn by_stem(sheet: &Lexicon<'_>, word: &[u8]) -> OriginDecision
+    ensures { result ≡ or_by_kosha by_stem (known_stem (replies sheet.now) word.now) (by_marks (heuristic_of word.now)) }
 {
-    let stem = kosha::known_stem(sheet, starts, word);
+    let stem = kosha::known_stem(sheet, word);
     match stem {
         Known::Tagged(origin) => OriginDecision {
             origin: origin,
@@ -101,23 +94,22 @@ fn by_stem(sheet: &[u8], starts: &[Start], word: &[u8]) -> OriginDecision
 }
 
 // The decision on a word by an accepted sheet: the table, which is asked for the whole word alone, then what the sheet says of the
-// word, of its remainders, and the marks. `starts` are the first bytes of the sheet's lines.
-pub fn decide_origin(word: &[u8], sheet: &[u8], starts: &[Start]) -> OriginDecision
-    requires { Indexed sheet.now starts.now }
-    ensures { result ≡ decision_of (reply sheet.now) word.now }
+// word, of its remainders, and the marks.
+#[tactic(auto, unfolding(crate::specs::Decisions::decision_of))]
+pub fn decide_origin(word: &[u8], sheet: &Lexicon<'_>) -> OriginDecision
+    ensures { result ≡ decision_of (replies sheet.now) word.now }
 {
     if word.len() == 0 {
         return no_evidence();
     }
-    let row = listed(word);
-    if let OriginFound::Listed(origin) = row {
+    if let Some(origin) = listed(word) {
         return OriginDecision {
-            origin: origin,
+            origin,
             source: OriginSource::Override,
             confidence: 1.0,
         };
     }
-    let own = kosha::known_by(sheet, starts, word);
+    let own = kosha::known_by(sheet, word);
     match own {
         Known::Tagged(origin) => OriginDecision {
             origin: origin,
@@ -125,6 +117,6 @@ pub fn decide_origin(word: &[u8], sheet: &[u8], starts: &[Start]) -> OriginDecis
             confidence: 0.95,
         },
         Known::Headword => no_evidence(),
-        Known::NotKnown => by_stem(sheet, starts, word),
+        Known::NotKnown => by_stem(sheet, word),
     }
 }

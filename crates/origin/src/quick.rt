@@ -1,7 +1,7 @@
 // What a few bytes tell of a word, so that most words are not searched: that ORIGIN_TABLE does not have it, that no mark of Aagantuk or Tatsam words stands in it, that it
 // ends in none of STRIP_SUFFIXES.
 ghost use Rattle.std.specs.Prelude.{◌≡◌, ◌+◌, ◌<◌, length, drop, get_or};
-ghost use Rattle.origin.specs.Quick.{last_bytes, ends_listed, may_list, opens_cluster, low_mark, high_mark, opens_mark, may_open, may_mark, ends_strip, may_strip};
+ghost use Rattle.origin.specs.Quick.{ends_listed, may_list, opens_cluster, low_mark, high_mark, opens_mark, may_open, may_mark, ends_strip, may_strip};
 
 // For the third byte of a word's first character, from 80 (hexadecimal) on, a bit for each last byte, from 80 on, that a word of
 // ORIGIN_TABLE which begins so ends in.
@@ -72,203 +72,116 @@ const LAST_BYTES: [u64; 64] = [
     0,
 ];
 
-fn last_bytes() -> [u64; 64]
-    ensures { result ≡ last_bytes }
-{
-    LAST_BYTES
-}
-
+// Whether a word of ORIGIN_TABLE has a first character with this third byte, and ends in byte b.
+#[tactic(auto, unfolding(crate::specs::Quick::ends_listed, crate::specs::Quick::last_bytes))]
 fn ends_listed(a: u8, b: u8) -> bool
     ensures { result ≡ ends_listed a b }
 {
-    if a < 0x80 {
+    if !matches!((a, b), (0x80..=0xBF, 0x80..=0xBF)) {
         return false;
     }
-    if 0xBF < a {
-        return false;
-    }
-    if b < 0x80 {
-        return false;
-    }
-    if 0xBF < b {
-        return false;
-    }
-    let masks = last_bytes();
     let first = (a - 0x80) as usize;
-    let last = (b - 0x80) as u64;
-    ((masks[first] >> last) & 1) == 1
+    (LAST_BYTES[first] >> (b - 0x80)) & 1 == 1
 }
 
 // Whether ORIGIN_TABLE can have the word.
+#[tactic(auto, unfolding(crate::specs::Quick::may_list))]
 pub(crate) fn may_list(word: &[u8]) -> bool
     ensures { result ≡ may_list word.now }
 {
-    let n = word.len();
-    if n < 3 {
-        return false;
-    }
-    ends_listed(word[2], word[n - 1])
+    3 <= word.len() && ends_listed(word[2], word[word.len() - 1])
 }
 
 // Byte i of the word, 0 where there is none.
 fn byte_at(word: &[u8], i: usize) -> u8
     ensures { result ≡ get_or word.now i 0 }
 {
-    if i < word.len() {
-        return word[i];
-    }
-    0
+    word.get(i).copied().unwrap_or(0)
 }
 
+#[tactic(auto, unfolding(crate::specs::Quick::opens_cluster))]
 fn opens_cluster(b: u8) -> bool
     ensures { result ≡ opens_cluster b }
 {
-    if b == 0x95 {
-        return true;
-    }
-    if b == 0x9C {
-        return true;
-    }
-    if b == 0xA4 {
-        return true;
-    }
-    b == 0xA6
+    matches!(b, 0x95 | 0x9C | 0xA4 | 0xA6)
 }
 
+#[tactic(auto, unfolding(crate::specs::Quick::low_mark))]
 fn low_mark(b: u8, v: u8) -> bool
     ensures { result ≡ low_mark b v }
 {
-    if b == 0x8B {
-        return true;
-    }
-    if b == 0x83 {
-        return true;
-    }
-    if b == 0xB7 {
-        return true;
-    }
-    if b == 0xBC {
-        return true;
-    }
-    if v == 0x8D {
-        return opens_cluster(b);
-    }
-    false
+    matches!(b, 0x8B | 0x83 | 0xB7 | 0xBC) || v == 0x8D && opens_cluster(b)
 }
 
+#[tactic(auto, unfolding(crate::specs::Quick::high_mark))]
 fn high_mark(b: u8) -> bool
     ensures { result ≡ high_mark b }
 {
-    if b == 0x83 {
-        return true;
-    }
-    if b < 0x98 {
-        return false;
-    }
-    b < 0xA0
+    matches!(b, 0x83 | 0x98..=0x9F)
 }
 
+#[tactic(auto, unfolding(crate::specs::Quick::opens_mark))]
 fn opens_mark(a: u8, b: u8, v: u8) -> bool
     ensures { result ≡ opens_mark a b v }
 {
-    if a == 0xA4 {
-        return low_mark(b, v);
+    match a {
+        0xA4 => low_mark(b, v),
+        0xA5 => high_mark(b),
+        _ => false,
     }
-    if a == 0xA5 {
-        return high_mark(b);
-    }
-    false
 }
 
 // Whether a mark can stand in the word from byte i on.
+#[tactic(auto, unfolding(crate::specs::Quick::may_open))]
 pub(crate) fn may_open(word: &[u8], i: usize) -> bool
     requires { i < length word.now }
     ensures { result ≡ may_open (drop i word.now) }
 {
-    if word[i] == 0xE0 {
-        let a = byte_at(word, i + 1);
-        let b = byte_at(word, i + 2);
-        let v = byte_at(word, i + 5);
-        return opens_mark(a, b, v);
-    }
-    false
+    word[i] == 0xE0
+        && opens_mark(
+            byte_at(word, i + 1),
+            byte_at(word, i + 2),
+            byte_at(word, i + 5),
+        )
 }
 
 // Whether a mark of Aagantuk or Tatsam words can stand in the word.
+#[tactic(auto, using(crate::proofs::Ruled::some_end), unfolding(crate::specs::Quick::may_mark))]
 pub(crate) fn may_mark(word: &[u8]) -> bool
     ensures { result ≡ may_mark word.now }
 {
-    let mut i: usize = 0;
-    while i < word.len() {
+    for i in 0..word.len() {
         if may_open(word, i) {
             return true;
         }
-        i += 1;
     }
     false
 }
 
+#[tactic(auto, unfolding(crate::specs::Quick::ends_strip))]
 fn ends_strip(a: u8, b: u8) -> bool
     ensures { result ≡ ends_strip a b }
 {
-    if b == 0xBE {
-        if a == 0xAE {
-            return true;
-        }
-        return a == 0x95;
+    match b {
+        0xBE => matches!(a, 0xAE | 0x95),
+        0x8B | 0x80 => a == 0x95,
+        0x87 => a == 0xB2,
+        0x88 => matches!(a, 0xBE | 0x97),
+        0x9F => a == 0xBE,
+        0x97 => a == 0x81,
+        0xB0 => matches!(a, 0xBF | 0x8D),
+        0xBF => matches!(a, 0xA4 | 0x96),
+        0xAE => a == 0x8D,
+        0x81 | 0x82 => a == 0xB0,
+        _ => false,
     }
-    if b == 0x8B {
-        return a == 0x95;
-    }
-    if b == 0x87 {
-        return a == 0xB2;
-    }
-    if b == 0x88 {
-        if a == 0xBE {
-            return true;
-        }
-        return a == 0x97;
-    }
-    if b == 0x80 {
-        return a == 0x95;
-    }
-    if b == 0x9F {
-        return a == 0xBE;
-    }
-    if b == 0x97 {
-        return a == 0x81;
-    }
-    if b == 0xB0 {
-        if a == 0xBF {
-            return true;
-        }
-        return a == 0x8D;
-    }
-    if b == 0xBF {
-        if a == 0xA4 {
-            return true;
-        }
-        return a == 0x96;
-    }
-    if b == 0xAE {
-        return a == 0x8D;
-    }
-    if b == 0x82 {
-        return a == 0xB0;
-    }
-    if b == 0x81 {
-        return a == 0xB0;
-    }
-    false
 }
 
 // Whether the word can end in one of STRIP_SUFFIXES.
+#[tactic(auto, unfolding(crate::specs::Quick::may_strip))]
 pub(crate) fn may_strip(word: &[u8]) -> bool
     ensures { result ≡ may_strip word.now }
 {
     let n = word.len();
-    if n < 6 {
-        return false;
-    }
-    ends_strip(word[n - 4], word[n - 1])
+    6 <= n && ends_strip(word[n - 4], word[n - 1])
 }

@@ -1,4 +1,5 @@
 -- Each thing that document 01 lists has the outcome that stands beside it in specs/Each, proved together. Assumes nothing.
+use Rattle.std.specs.Prelude.{Ok}
 use mathlib.Core.Path.{◌≡◌, refl}
 use mathlib.Core.List.{map}
 use Rattle.text.specs.Utf8.{within, utf8_char, opened, after, run, is_utf8}
@@ -22,7 +23,6 @@ use Rattle.progressive.specs.Answers.{answer_of}
 use Rattle.origin.specs.Marks.{contains_one, ends_in_one, aagantuk_marks, has_aagantuk_markers, tatsam_marks, has_tatsam_markers, tadbhav_ends, has_tadbhav_markers, heuristic_of}
 use Rattle.origin.specs.Decisions.{known_in, known_by, known_rest, known_under, known_stem, decision_of}
 use Rattle.origin.specs.Answers.{decision_answer}
-use Rattle.origin.specs.declared.entries.DecisionAnswer.TheVariants.{Decided}
 use Rattle.ranking.specs.Parts.{part}
 use Rattle.ranking.specs.Rank.{ahead_of}
 use Rattle.ranking.specs.Lists.{ranked, plus, plus_all}
@@ -48,7 +48,7 @@ unfolding within utf8_char opened after run is_utf8 forbidden name_run holds_for
 forms_worked = refl
 
 -- every rule and every mark of origin, with its confidence by its bits
-pub origins_worked : map (λ (c : Classed). decision_answer c.name c.sheet) origins ≡ map (λ (c : Classed). Decided c.decision) origins
+pub origins_worked : map (λ (c : Classed). decision_answer c.name c.sheet) origins ≡ map (λ (c : Classed). Ok c.decision) origins
 unfolding within utf8_char opened after run is_utf8 opens chars forbidden name_run holds_forbidden word_check tag_of letters_of well_kept is_letters entry_of written
     is_name is_kind is_meant is_form judged sheet_check inputs_of reply sheds is_long plain shared remainders strip_suffixes origin_words origin_tags origin_of
     contains_one ends_in_one aagantuk_marks has_aagantuk_markers tatsam_marks has_tatsam_markers tadbhav_ends has_tadbhav_markers heuristic_of known_in known_by

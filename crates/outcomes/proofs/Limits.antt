@@ -1,5 +1,6 @@
 -- The limits, with their numbers written out: a word of 192 bytes and of 193, a name of 210 and of 211, a sheet of 65,536 and of 65,537, an
 -- input of the program of 65,536 and of 65,537. Assumes nothing.
+use Rattle.std.specs.Prelude.{Err, Ok}
 use Prim.Native.Nat.{ℕ}
 use native.Mathlib.Omega.{arith}
 use mathlib.Core.Path.{◌≡◌, refl}
@@ -11,20 +12,20 @@ use Rattle.runs.specs.Runs.{pick}
 use Rattle.text.specs.Utf8.{is_utf8}
 use Rattle.text.specs.Names.{holds_forbidden}
 use Rattle.text.specs.Word.{word_limit, word_check}
-use Rattle.text.specs.declared.word.WordCheck.TheVariants as words
+use Rattle.text.specs.declared.word.WordFault.TheVariants as words
+use Rattle.sheet.specs.declared.check.SheetFault.TheVariants as sheets
 use Rattle.sheet.specs.Limits.{name_limit, sheet_limit}
 use Rattle.sheet.specs.Forms.{is_name}
 use Rattle.sheet.specs.Lines.{starts_of, judged, sheet_check}
-use Rattle.sheet.specs.declared.check.SheetCheck.TheVariants as sheets
 use Rattle.writing.specs.Refused.{refused_text}
 use Rattle.listing.specs.Printed.{input_limit, word_of, sheet_of, readings_text, printed}
 
 -- a word of 193 bytes is too long, whatever it holds; one of 192 is judged by what it holds
-pub word_of_193 : (w : List ℕ) → length w ≡ 193 → word_check w ≡ words.TooLong
+pub word_of_193 : (w : List ℕ) → length w ≡ 193 → word_check w ≡ (Err words.TooLong)
 unfolding word_check
 word_of_193 w e = rw (lt-ltb word_limit (length w) (omega arith))
 
-pub word_of_192 : (w : List ℕ) → length w ≡ 192 → word_check w ≡ pick (not (is_utf8 w)) words.NotUtf8 (pick (holds_forbidden w) words.Forbidden words.Accepted)
+pub word_of_192 : (w : List ℕ) → length w ≡ 192 → word_check w ≡ pick (not (is_utf8 w)) (Err words.NotUtf8) (pick (holds_forbidden w) (Err words.Forbidden) (Ok tt))
 unfolding word_check
 word_of_192 w e = rw (le-ltb word_limit (length w) (omega arith))
 
@@ -42,7 +43,7 @@ unfolding is_name
 name_of_0 = refl
 
 -- the same of a sheet
-pub sheet_of_65537 : (s : List ℕ) → length s ≡ 65537 → sheet_check s ≡ sheets.TooLong
+pub sheet_of_65537 : (s : List ℕ) → length s ≡ 65537 → sheet_check s ≡ Err sheets.TooLong
 unfolding sheet_check
 sheet_of_65537 s e = rw (lt-ltb sheet_limit (length s) (omega arith))
 

@@ -1,6 +1,8 @@
 -- Two accepted sheets that reply alike to the word's own questions give the same origin, decomposition, root candidates and progressive
 -- form, as they give the same readings (analysis/proofs/Promises.same-answer). An accepted sheet has no line with an empty name, so what
 -- is asked of the empty word is settled too. Assumes nothing.
+use Rattle.refusals.specs.declared.Refusal.{Refusal}
+use Rattle.std.specs.Prelude.{Ok, Result}
 use Prim.Native.Nat.{ℕ, ◌<◌}
 use native.Mathlib.Omega.{arith}
 use mathlib.Core.Path.{◌≡◌, refl, sym, ap, ◌∙◌}
@@ -14,21 +16,16 @@ use Rattle.runs.proofs.Begins.{and_left}
 use Rattle.text.specs.Utf8.{is_utf8}
 use Rattle.text.specs.Names.{holds_forbidden}
 use Rattle.text.specs.Word.{word_check}
-use Rattle.text.specs.declared.word.WordCheck.TheVariants as words
 use Rattle.sheet.specs.Limits.{name_limit}
 use Rattle.sheet.specs.Forms.{is_name, key, key_of}
 use Rattle.sheet.specs.Lines.{starts_of, line_at, sheet_check}
-use Rattle.sheet.specs.declared.check.SheetCheck.TheVariants as sheets
 use Rattle.sheet.specs.Inputs.{inputs_of}
-use Rattle.sheet.specs.declared.inputs.Inputs.{Inputs}
-use Rattle.sheet.specs.declared.inputs.Inputs.TheVariants as inputs
 use Rattle.sheet.specs.Replies.{unknown, reply_in, reply, Alike}
 use Rattle.sheet.proofs.Forms.{form-named}
 use Rattle.sheet.proofs.Accepted.{GoesUp, accepted_up}
 use Rattle.sheet.proofs.Refusals.{accepted-both}
 use Rattle.origin.specs.Answers.{decision_if, decision_answer, origin_only}
 use Rattle.origin.specs.declared.OriginDecision.{OriginDecision}
-use Rattle.origin.specs.declared.entries.DecisionAnswer.TheVariants as decisions
 use Rattle.decomposition.specs.Answers.{morpheme_if, morpheme_answer}
 use Rattle.decomposition.specs.declared.Morpheme.{Morpheme}
 use Rattle.roots.specs.Answers.{roots_if, roots_for, best_in, best_answer, known_if, known_answer}
@@ -36,7 +33,6 @@ use Rattle.progressive.specs.Progressive.{Outcome, no, yes, progressive_of, is_y
 use Rattle.progressive.specs.Found.{form_of, lemma_name}
 use Rattle.progressive.specs.Answers.{answer_if, answer_of, form_given, name_if, lemma_text, supported_if, supported_of}
 use Rattle.progressive.specs.declared.find.Progressive.{Progressive}
-use Rattle.progressive.specs.declared.entry.Supported.TheVariants as supports
 use Rattle.paths.specs.Questions.{Part, Own, alone}
 use Rattle.paths.proofs.Own.{whole_part}
 use Rattle.paths.proofs.Agreed.{outcome_same}
@@ -68,7 +64,7 @@ none_empty s last (at ∷ places) letter g =
     rw (other_key l.letter letter l.name (some-name l.name (form-named (drop at s) g.0))) (none_empty s (key l) places letter g.2)
 
 -- an accepted sheet has no line for the empty name
-pub empty_unknown : (s : List ℕ) (letter : ℕ) → sheet_check s ≡ sheets.Accepted → reply s letter [] ≡ unknown
+pub empty_unknown : (s : List ℕ) (letter : ℕ) → sheet_check s ≡ Ok tt → reply s letter [] ≡ unknown
 unfolding reply
 empty_unknown s letter ah = none_empty s [] (starts_of s) letter (accepted_up s ah)
 
@@ -81,7 +77,7 @@ pub record InWord : Type 0 where
 abbrev pub in_word : Progressive → InWord
 in_word p = record { found = p.found; ends = p.main_end; negative = p.negative }
 
-module _ (s t w : List ℕ) (aw : word_check w ≡ words.Accepted) (ah : sheet_check s ≡ sheets.Accepted) (bh : sheet_check t ≡ sheets.Accepted)
+module _ (s t w : List ℕ) (aw : word_check w ≡ Ok tt) (ah : sheet_check s ≡ Ok tt) (bh : sheet_check t ≡ Ok tt)
     (alike : (letter : ℕ) (name : List ℕ) → Own (reply s) w letter name → Alike s t letter name) where
   replied : (letter : ℕ) (name : List ℕ) → Own (reply s) w letter name → reply s letter name ≡ reply t letter name
   unfolding Alike
@@ -98,9 +94,9 @@ module _ (s t w : List ℕ) (aw : word_check w ≡ words.Accepted) (ah : sheet_c
   pub same_decision : decision_answer w s ≡ decision_answer w t
   unfolding decision_answer
   same_decision =
-      ap (λ (i : Inputs). decision_if i w s) (accepted-both w s aw ah)
-      ∙ ap (λ (d : OriginDecision). decisions.Decided d) (decision_same (reply s) (reply t) w utf8 part_replied w (whole_part w utf8))
-      ∙ sym (ap (λ (i : Inputs). decision_if i w t) (accepted-both w t aw bh))
+      ap (λ (i : Result (Unit {0}) Refusal). decision_if i w s) (accepted-both w s aw ah)
+      ∙ ap (λ (d : OriginDecision). Ok d) (decision_same (reply s) (reply t) w utf8 part_replied w (whole_part w utf8))
+      ∙ sym (ap (λ (i : Result (Unit {0}) Refusal). decision_if i w t) (accepted-both w t aw bh))
 
   pub same_origin : origin_only (decision_answer w s) ≡ origin_only (decision_answer w t)
   same_origin = ap origin_only same_decision
@@ -109,28 +105,28 @@ module _ (s t w : List ℕ) (aw : word_check w ≡ words.Accepted) (ah : sheet_c
   pub same_morpheme : morpheme_answer w s ≡ morpheme_answer w t
   unfolding morpheme_answer
   same_morpheme =
-      ap (λ (i : Inputs). morpheme_if i w s) (accepted-both w s aw ah)
-      ∙ ap (λ (m : Morpheme). record { inputs = inputs.Accepted; morpheme = m }) (morpheme_same (reply s) (reply t) w utf8 part_replied)
-      ∙ sym (ap (λ (i : Inputs). morpheme_if i w t) (accepted-both w t aw bh))
+      ap (λ (i : Result (Unit {0}) Refusal). morpheme_if i w s) (accepted-both w s aw ah)
+      ∙ ap (λ (m : Morpheme). Ok m) (morpheme_same (reply s) (reply t) w utf8 part_replied)
+      ∙ sym (ap (λ (i : Result (Unit {0}) Refusal). morpheme_if i w t) (accepted-both w t aw bh))
 
   -- every candidate with its score and origin; so the best root too, and whether there is one
   pub same_roots : roots_for w s ≡ roots_for w t
   unfolding roots_for
   same_roots =
-      ap (λ (i : Inputs). roots_if i w s) (accepted-both w s aw ah)
+      ap (λ (i : Result (Unit {0}) Refusal). roots_if i w s) (accepted-both w s aw ah)
       ∙ candidates_same (reply s) (reply t) w utf8 part_replied
-      ∙ sym (ap (λ (i : Inputs). roots_if i w t) (accepted-both w t aw bh))
+      ∙ sym (ap (λ (i : Result (Unit {0}) Refusal). roots_if i w t) (accepted-both w t aw bh))
 
   same_inputs : inputs_of w s ≡ inputs_of w t
   same_inputs = accepted-both w s aw ah ∙ sym (accepted-both w t aw bh)
 
   pub same_best : best_answer w s ≡ best_answer w t
   unfolding best_answer
-  same_best = ap (λ (i : Inputs). best_in i (roots_for w s)) same_inputs ∙ ap (best_in (inputs_of w t)) same_roots
+  same_best = ap (λ (i : Result (Unit {0}) Refusal). best_in i (roots_for w s)) same_inputs ∙ ap (best_in (inputs_of w t)) same_roots
 
   pub same_known : known_answer w s ≡ known_answer w t
   unfolding known_answer
-  same_known = ap (λ (i : Inputs). known_if i (roots_for w s)) same_inputs ∙ ap (known_if (inputs_of w t)) same_roots
+  same_known = ap (λ (i : Result (Unit {0}) Refusal). known_if i (roots_for w s)) same_inputs ∙ ap (known_if (inputs_of w t)) same_roots
 
   -- the progressive form, as the definition of the search has it: whether there is one, its lemma, and whether it is negative
   pub same_outcome : progressive_of (reply s) w ≡ progressive_of (reply t) w
@@ -139,19 +135,19 @@ module _ (s t w : List ℕ) (aw : word_check w ≡ words.Accepted) (ah : sheet_c
   pub same_supported : supported_of w s ≡ supported_of w t
   unfolding supported_of
   same_supported =
-      ap (λ (i : Inputs). supported_if i w s) (accepted-both w s aw ah)
-      ∙ ap (λ (o : Outcome). supports.Given (is_yes o)) same_outcome
-      ∙ sym (ap (λ (i : Inputs). supported_if i w t) (accepted-both w t aw bh))
+      ap (λ (i : Result (Unit {0}) Refusal). supported_if i w s) (accepted-both w s aw ah)
+      ∙ ap (λ (o : Outcome). Ok (is_yes o)) same_outcome
+      ∙ sym (ap (λ (i : Result (Unit {0}) Refusal). supported_if i w t) (accepted-both w t aw bh))
 
   -- the form as it is given: whether there is one, where its main form ends, whether it is negative; where the lemma stands is the
   -- sheet's affair
   pub same_form : in_word (form_given (answer_of w s)) ≡ in_word (form_given (answer_of w t))
   unfolding answer_of
   same_form =
-      ap (λ (i : Inputs). in_word (form_given (answer_if i w s))) (accepted-both w s aw ah)
+      ap (λ (i : Result (Unit {0}) Refusal). in_word (form_given (answer_if i w s))) (accepted-both w s aw ah)
       ∙ by (progressive_of (reply s) w)
       ∙ ap (λ (o : Outcome). in_word (form_of t w o)) same_outcome
-      ∙ sym (ap (λ (i : Inputs). in_word (form_given (answer_if i w t))) (accepted-both w t aw bh))
+      ∙ sym (ap (λ (i : Result (Unit {0}) Refusal). in_word (form_given (answer_if i w t))) (accepted-both w t aw bh))
     where
       by : (o : Outcome) → in_word (form_of s w o) ≡ in_word (form_of t w o)
       by no = refl
@@ -161,6 +157,6 @@ module _ (s t w : List ℕ) (aw : word_check w ≡ words.Accepted) (ah : sheet_c
   pub same_lemma : lemma_text w s ≡ lemma_text w t
   unfolding lemma_text
   same_lemma =
-      ap (λ (i : Inputs). name_if i w s) (accepted-both w s aw ah)
+      ap (λ (i : Result (Unit {0}) Refusal). name_if i w s) (accepted-both w s aw ah)
       ∙ ap lemma_name same_outcome
-      ∙ sym (ap (λ (i : Inputs). name_if i w t) (accepted-both w t aw bh))
+      ∙ sym (ap (λ (i : Result (Unit {0}) Refusal). name_if i w t) (accepted-both w t aw bh))

@@ -1,5 +1,5 @@
 -- What is asked in document 01's worked cases, and how an outcome is said there: by texts, labels and kinds. Assumes nothing.
-use Rattle.std.specs.Prelude.{ℕ, Bool, List, [], ◌∷◌, map, take, get_or}
+use Rattle.std.specs.Prelude.{ℕ, Bool, List, [], ◌∷◌, map, take, get_or, Err, Ok, Result}
 use Rattle.runs.specs.Runs.{pick}
 use Rattle.tables.specs.Rows.{prefix_labels, suffixes}
 use Rattle.tables.specs.Tables.{affixes}
@@ -10,16 +10,12 @@ use Rattle.ranking.specs.declared.Segment.{Segment}
 use Rattle.ranking.specs.declared.Classified.{Classified}
 use Rattle.origin.specs.Decisions.{decided}
 use Rattle.origin.specs.declared.OriginDecision.{OriginDecision}
-use Rattle.progressive.specs.declared.entry.Answer.{Answer}
-use Rattle.progressive.specs.declared.entry.Answer.TheVariants as answers
 use Rattle.progressive.specs.Answers.{answer_of, answer_numbers, lemma_part}
-use Rattle.analysis.specs.declared.entry.Said.{Said}
-use Rattle.analysis.specs.declared.entry.Said.TheVariants.{Listed, Refused}
 use Rattle.analysis.specs.Answers.{said_of, rows_given, said_numbers}
 use Rattle.refusals.specs.Refusals.{numbers_of}
-use Rattle.sheet.specs.declared.inputs.Inputs.{Inputs}
-use Rattle.sheet.specs.declared.inputs.Inputs.TheVariants as inputs
-use Rattle.decomposition.specs.declared.Parts.{Parts}
+use Rattle.decomposition.specs.declared.Morpheme.{Morpheme}
+use Rattle.progressive.specs.declared.find.Progressive.{Progressive}
+use Rattle.refusals.specs.declared.Refusal.{Refusal}
 use Rattle.decomposition.specs.Answers.{morpheme_answer}
 use Rattle.listing.specs.Printed.{printed}
 
@@ -73,24 +69,25 @@ row_of w r = record {
 }
 
 -- what the core call says and gives of the word w
-abbrev pub list_of : List ℕ → Said → List Classified → Outcome
-list_of w Listed rs = list (map (row_of w) rs)
-list_of w (Refused r) rs = refused (said_numbers (Refused r))
+abbrev pub list_of : List ℕ → Result (Unit {0}) Refusal → List Classified → Outcome
+list_of w (Ok _) rs = list (map (row_of w) rs)
+list_of w (Err r) rs = refused (said_numbers (Err r))
 
 -- what the analysis of a progressive form gives of the word w and the sheet s
-abbrev pub form_of : List ℕ → List ℕ → Answer → Outcome
-form_of w s (answers.Refused r) = refused (answer_numbers (answers.Refused r))
-form_of w s (answers.Given p) = pick p.found (form (part w 0 p.main_end) p.negative (lemma_part s (answers.Given p))) no_form
+abbrev pub form_of : List ℕ → List ℕ → Result Progressive Refusal → Outcome
+form_of w s (Err r) = refused (answer_numbers (Err r))
+form_of w s (Ok p) = pick p.found (form (part w 0 p.main_end) p.negative (lemma_part s (Ok p))) no_form
 
 -- what decompose gives of the word w
-abbrev pub parts_of : List ℕ → Inputs → Parts → Outcome
-parts_of w inputs.Accepted p =
+abbrev pub parts_of : List ℕ → Result Morpheme Refusal → Outcome
+parts_of w (Ok m) =
+    let p = m.parts in
     parts (part w p.start p.end) (map label_of (take p.prefix_count (p.prefix ∷ []))) (map (λ (k : ℕ). get_or suffixes k []) (take p.suffix_count p.suffixes))
-parts_of w (inputs.Refused r) p = refused (numbers_of r)
+parts_of w (Err r) = refused (numbers_of r)
 
 -- the outcome of a question
 abbrev pub outcome_of : Question → Outcome
 outcome_of (prints input) = text (printed input)
 outcome_of (readings w s) = list_of w (said_of w s) (rows_given w s)
 outcome_of (progressive w s) = form_of w s (answer_of w s)
-outcome_of (decompose w s) = parts_of w (morpheme_answer w s).inputs (morpheme_answer w s).morpheme.parts
+outcome_of (decompose w s) = parts_of w (morpheme_answer w s)

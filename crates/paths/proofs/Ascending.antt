@@ -8,8 +8,8 @@ use mathlib.Core.List.Memᴰ
 use mathlib.Core.List.{List, [], ◌∷◌, map, Memᴰ}
 use mathlib.Core.Logic.{⊎_elim}
 use Rattle.runs.specs.Runs.{pick, cmp}
-use Rattle.runs.specs.declared.Order.{Order}
-use Rattle.runs.specs.declared.Order.TheVariants.{Less}
+use Rattle.std.specs.declared.cmp.Ordering.{Ordering}
+use Rattle.std.specs.declared.cmp.Ordering.TheVariants.{Less}
 use Rattle.runs.proofs.Ordered.{step_less, step_same, and_then, cmp_refl}
 use Rattle.strips.specs.Prefix.{prefix_remainder}
 use Rattle.sheet.specs.Replies.{Ask}
@@ -28,7 +28,7 @@ use Rattle.paths.proofs.Sound.{sound}
 use Rattle.paths.proofs.Unique.{unique}
 
 -- strip by strip from the outermost, then prefix row by prefix row; a path that ends comes before one that goes on
-abbrev pub path_order : Route → Route → Order
+abbrev pub path_order : Route → Route → Ordering
 path_order p q = and_then (cmp (map place_of p.strips) (map place_of q.strips)) (cmp p.prefix_rows q.prefix_rows)
 
 abbrev pub before : Route → Route → Bool
@@ -87,12 +87,12 @@ module _ (ask : Ask) where
 
 under_less : (x y : Strip) (p q : Route) → place_of x < place_of y → before (under x p) (under y q) ≡ true
 under_less x y p q h =
-    ap (λ (o : Order). is_less (and_then o (cmp p.prefix_rows q.prefix_rows)))
+    ap (λ (o : Ordering). is_less (and_then o (cmp p.prefix_rows q.prefix_rows)))
     (step_less (place_of x) (place_of y) (cmp (map place_of p.strips) (map place_of q.strips)) h)
 
 under_same : (x : Strip) (p q : Route) → before p q ≡ true → before (under x p) (under x q) ≡ true
 under_same x p q e =
-    ap (λ (o : Order). is_less (and_then o (cmp p.prefix_rows q.prefix_rows)))
+    ap (λ (o : Ordering). is_less (and_then o (cmp p.prefix_rows q.prefix_rows)))
     (step_same (place_of x) (place_of x) (cmp (map place_of p.strips) (map place_of q.strips)) refl) ∙ e
 
 row_less : (i j : ℕ) (b c : Bool) → i < j → i + i + pick b 1 0 < j + j + pick c 1 0
@@ -158,7 +158,7 @@ ascending ask w = routes_ascend ask 4 all_rows w
 before_itself : (p q : Route) → before p q ≡ true → p ≡ q → ⊥
 before_itself p q e f =
     let z : ◌≡◌ {A = Bool} false true =
-    sym (ap₂ (λ (a b : Order). is_less (and_then a b)) (cmp_refl (map place_of p.strips)) (cmp_refl p.prefix_rows)) ∙ ap (before p) f ∙ e in
+    sym (ap₂ (λ (a b : Ordering). is_less (and_then a b)) (cmp_refl (map place_of p.strips)) (cmp_refl p.prefix_rows)) ∙ ap (before p) f ∙ e in
     let n : ◌≡◌ {A = ℕ} 0 1 = cc in
     omega arith
 

@@ -11,8 +11,8 @@ use lib.Seq.{take_at, drop_at}
 use lib.Dec.{ltb, leb}
 use borrow.Author.Tests.{lt-ltb, le-ltb, le-leb, eqb-true}
 use Rattle.runs.specs.Runs.{pick, cmp}
-use Rattle.runs.specs.declared.Order.{Order}
-use Rattle.runs.specs.declared.Order.TheVariants.{Less, Equal, Greater}
+use Rattle.std.specs.declared.cmp.Ordering.{Ordering}
+use Rattle.std.specs.declared.cmp.Ordering.TheVariants.{Less, Equal, Greater}
 use Rattle.runs.proofs.Ordered.{and_then, turned, cmp_turned, cmp_refl}
 use Rattle.text.specs.Utf8.{is_utf8}
 use Rattle.text.specs.Characters.{opens, chars}
@@ -131,7 +131,7 @@ larger_less x y rest h = rw (le-ltb y x (omega arith), lt-ltb x y h)
 larger_same : (x y : ℕ) (rest : Bool) → x ≡ y → larger x y rest ≡ rest
 larger_same x y rest h = rw (le-ltb y x (omega arith), le-ltb x y (omega arith))
 
-last_less : (o : Order) → or_else o false ≡ is_less o
+last_less : (o : Ordering) → or_else o false ≡ is_less o
 last_less Less = refl
 last_less Equal = refl
 last_less Greater = refl
@@ -151,7 +151,7 @@ stems_decide w a b s t rest =
     let z : length a ≡ length b = omega arith in
     let e : a ≡ b = same_length w a s.back b t.back s.joined t.joined z in
     larger_same (chars a) (chars b) _ (ap chars e)
-    ∙ ap (λ (x : List ℕ). or_else (cmp a x) rest) (sym e) ∙ ap (λ (o : Order). or_else o rest) (cmp_refl a)
+    ∙ ap (λ (x : List ℕ). or_else (cmp a x) rest) (sym e) ∙ ap (λ (o : Ordering). or_else o rest) (cmp_refl a)
     ∙ sym (larger_same (length a) (length b) rest z)))
 
 -- the code's rank is document 01's, but for the order of paths
@@ -181,9 +181,9 @@ larger_splits x y r a b rest e = go (ltb y x) (ltb x y)
     go false false = e
 
 smaller_splits : (s t : List ℕ) (r a b rest : Bool) → r ≡ pick a true (pick b false rest) → smaller s t r ≡ pick (smaller s t a) true (pick (smaller t s b) false rest)
-smaller_splits s t r a b rest e = go (cmp s t) ∙ ap (λ (o : Order). pick (smaller s t a) true (pick (or_else o b) false rest)) (sym (cmp_turned s t))
+smaller_splits s t r a b rest e = go (cmp s t) ∙ ap (λ (o : Ordering). pick (smaller s t a) true (pick (or_else o b) false rest)) (sym (cmp_turned s t))
   where
-    go : (o : Order) → or_else o r ≡ pick (or_else o a) true (pick (or_else (turned o) b) false rest)
+    go : (o : Ordering) → or_else o r ≡ pick (or_else o a) true (pick (or_else (turned o) b) false rest)
     go Less = refl
     go Equal = e
     go Greater = refl
@@ -226,7 +226,7 @@ permuted_back (then p q) m = permuted_back p (permuted_back q m)
 earlier_is : (p q : Route) → before p q ≡ earlier p q
 earlier_is p q = go (cmp (map place_of p.strips) (map place_of q.strips)) (cmp p.prefix_rows q.prefix_rows)
   where
-    go : (x y : Order) → is_less (and_then x y) ≡ or_else x (or_else y false)
+    go : (x y : Ordering) → is_less (and_then x y) ≡ or_else x (or_else y false)
     go Less y = refl
     go Equal y = sym (last_less y)
     go Greater y = refl
@@ -266,7 +266,7 @@ rows-ranked ask w u =
     either false y h = h refl
 
 smaller_itself : (s : List ℕ) (rest : Bool) → smaller s s rest ≡ rest
-smaller_itself s rest = ap (λ (o : Order). or_else o rest) (cmp_refl s)
+smaller_itself s rest = ap (λ (o : Ordering). or_else o rest) (cmp_refl s)
 
 -- no path comes before itself
 ranked_itself : (ask : Ask) (w : List ℕ) (p : Route) → ranked_before ask w p p ≡ false

@@ -2,8 +2,8 @@
 -- root bytes ascending; then the earlier path. Assumes nothing.
 use Rattle.std.specs.Prelude.{ℕ, ◌+◌, Bool, true, false, List, map, length}
 use Rattle.runs.specs.Runs.{pick, cmp}
-use Rattle.runs.specs.declared.Order.{Order}
-use Rattle.runs.specs.declared.Order.TheVariants.{Less, Equal, Greater}
+use Rattle.std.specs.declared.cmp.Ordering.{Ordering}
+use Rattle.std.specs.declared.cmp.Ordering.TheVariants.{Less, Equal, Greater}
 use Rattle.text.specs.Characters.{chars}
 use Rattle.sheet.specs.Replies.{Ask}
 use Rattle.ranking.specs.Rank.{larger}
@@ -11,7 +11,7 @@ use Rattle.paths.specs.Support.{score_of}
 use Rattle.paths.specs.Chains.{Strip, Route}
 
 -- what comes first by an order; where it says equal, `rest` decides
-abbrev pub or_else : Order → Bool → Bool
+abbrev pub or_else : Ordering → Bool → Bool
 or_else Less rest = true
 or_else Equal rest = rest
 or_else Greater rest = false

@@ -1,5 +1,8 @@
 -- The worked cases of document 01 for progressive forms, proved together: inputs and what `analyze_progressive` gives for them.
 -- Assumes nothing.
+use Rattle.std.specs.Prelude.{Err, Ok, Result}
+use Rattle.refusals.specs.declared.Refusal.{Refusal}
+use Rattle.progressive.specs.declared.find.Progressive.{Progressive}
 use Prim.Native.Nat.{ℕ}
 use mathlib.Core.Path.{◌≡◌, refl}
 use mathlib.Core.Bool.{true, false}
@@ -14,8 +17,6 @@ use Rattle.sheet.specs.Inputs.{inputs_of}
 use Rattle.sheet.specs.Replies.{reply}
 use Rattle.refusals.specs.declared.Refusal.TheVariants.{SheetNoForm}
 use Rattle.lookup.specs.Search.{place_of}
-use Rattle.progressive.specs.declared.entry.Answer.{Answer}
-use Rattle.progressive.specs.declared.entry.Answer.TheVariants.{Refused, Given}
 use Rattle.progressive.specs.Progressive.{regular, lemma_of, is_shaped, progressive_of}
 use Rattle.progressive.specs.Found.{no_form}
 use Rattle.progressive.specs.Answers.{answer_of}
@@ -65,12 +66,12 @@ inputs =
     []
 
 -- the lemma खानु, without and with न; no progressive form, since the link decides alone; an empty word with a faulty sheet
-pub outcomes : List Answer
+pub outcomes : List (Result Progressive Refusal)
 outcomes =
-    Given (record { found = true; main_end = 9; negative = false; lemma_at = 3; lemma_len = 12 }) ∷
-    Given (record { found = true; main_end = 12; negative = true; lemma_at = 3; lemma_len = 12 }) ∷
-    Given no_form ∷
-    Refused (SheetNoForm 0) ∷
+    Ok (record { found = true; main_end = 9; negative = false; lemma_at = 3; lemma_len = 12 }) ∷
+    Ok (record { found = true; main_end = 12; negative = true; lemma_at = 3; lemma_len = 12 }) ∷
+    Ok no_form ∷
+    Err (SheetNoForm 0) ∷
     []
 
 pub cases : map (λ (c : Case). answer_of c.word c.sheet) inputs ≡ outcomes

@@ -1,4 +1,5 @@
 -- What the entries hand back, by what is said of word and sheet. The proofs of `entry` cite it. Assumes nothing.
+use Rattle.std.specs.Prelude.{Bool, Err, Ok, Result}
 use mathlib.Core.Path.{◌≡◌, refl, sym, ap, ◌∙◌}
 use mathlib.Core.List.{List}
 use Prim.Native.Nat.{ℕ, ◌+◌, ◌-◌, ◌≤◌}
@@ -7,78 +8,68 @@ use lib.ListN.{length, take, drop}
 use Rattle.sheet.specs.Inputs.{inputs_of, numbers_given, lowest_numbers}
 use Rattle.sheet.specs.Replies.{reply}
 use Rattle.refusals.specs.declared.Refusal.{Refusal}
-use Rattle.sheet.specs.declared.inputs.Inputs.{Inputs}
-use Rattle.sheet.specs.declared.inputs.Inputs.TheVariants as inputs
 use Rattle.sheet.proofs.Refusals.{lowest}
 use Rattle.progressive.specs.declared.find.Progressive.{Progressive}
-use Rattle.progressive.specs.declared.entry.Answer.{Answer}
-use Rattle.progressive.specs.declared.entry.Answer.TheVariants.{Refused, Given}
-use Rattle.progressive.specs.declared.entry.Supported.{Supported}
-use Rattle.progressive.specs.declared.entry.Supported.TheVariants as supports
 use Rattle.progressive.specs.Found.{FormAt, part_at}
 use Rattle.progressive.specs.Answers.{answer_if, answer_of, form_given, name_if, lemma_text, Lies, Analyzed, supported_if, supported_of, supported_numbers}
 use Rattle.progressive.specs.Progressive.{progressive_of}
 use Rattle.progressive.proofs.Forms.{form-found}
 
 module _ (w s : List ℕ) where
-  -- x is what the check of word and sheet gave
-  pub refused : (x : Inputs) (r : Refusal) → x ≡ inputs_of w s → x ≡ inputs.Refused r → Analyzed w s (Refused r)
+  -- a refusal is given as it is
+  pub refused : (r : Refusal) → inputs_of w s ≡ Err r → Analyzed w s (Err r)
   unfolding answer_of lemma_text
-  refused x r e f =
-      let i : inputs.Refused r ≡ inputs_of w s = sym f ∙ e in
-      record {
-        settled = ap (λ (q : Inputs). answer_if q w s) i;
-        reads = ap (λ (q : Inputs). name_if q w s) i;
-        lies = tt;
-        numbers = ap numbers_given i ∙ lowest w s;
-      }
+  refused r i = record {
+    settled = ap (λ (q : Result (Unit {0}) Refusal). answer_if q w s) (sym i);
+    reads = ap (λ (q : Result (Unit {0}) Refusal). name_if q w s) (sym i);
+    lies = tt;
+    numbers = ap numbers_given (sym i) ∙ lowest w s;
+  }
 
   -- a form that was found is given
-  pub given : (x : Inputs) (r : Progressive) → x ≡ inputs_of w s → x ≡ inputs.Accepted → FormAt s w r → Analyzed w s (Given r)
+  pub given : (r : Progressive) → inputs_of w s ≡ Ok tt → FormAt s w r → Analyzed w s (Ok r)
   unfolding answer_of lemma_text
-  given x r e f k =
-      let i : inputs.Accepted ≡ inputs_of w s = sym f ∙ e in
-      record {
-        settled = ap Given k.settled ∙ ap (λ (q : Inputs). answer_if q w s) i;
-        reads = k.reads ∙ ap (λ (q : Inputs). name_if q w s) i;
-        lies = (k.inside, k.parted);
-        numbers = ap numbers_given i ∙ lowest w s;
-      }
+  given r i k = record {
+    settled = ap Ok k.settled ∙ ap (λ (q : Result (Unit {0}) Refusal). answer_if q w s) (sym i);
+    reads = k.reads ∙ ap (λ (q : Result (Unit {0}) Refusal). name_if q w s) (sym i);
+    lies = (k.inside, k.parted);
+    numbers = ap numbers_given (sym i) ∙ lowest w s;
+  }
 
   -- the places of what was given lie in the sheet
-  pub given_inside : (a : Answer) → Lies w s a → (form_given a).lemma_at + (form_given a).lemma_len ≤ length s
-  given_inside (Refused r) l = omega arith
-  given_inside (Given r) l = l.0
+  pub given_inside : (a : Result Progressive Refusal) → Lies w s a → (form_given a).lemma_at + (form_given a).lemma_len ≤ length s
+  given_inside (Err r) l = omega arith
+  given_inside (Ok r) l = l.0
 
   -- the part that the lemma's places cut out of the sheet
-  pub part-given : (a : Answer) (r : Progressive) → Analyzed w s a → r ≡ form_given a →
+  pub part-given : (a : Result Progressive Refusal) (r : Progressive) → Analyzed w s a → r ≡ form_given a →
       (take (r.lemma_at + r.lemma_len - r.lemma_at) (drop r.lemma_at s) ≡ part_at s (form_given (answer_of w s)))
       × (take (r.lemma_at + r.lemma_len - r.lemma_at) (drop r.lemma_at s) ≡ lemma_text w s)
   part-given a r k e =
       let p : r.lemma_at + r.lemma_len - r.lemma_at ≡ r.lemma_len = omega arith in
       let q : take (r.lemma_at + r.lemma_len - r.lemma_at) (drop r.lemma_at s) ≡ part_at s (form_given a) =
       ap (λ (n : ℕ). take n (drop r.lemma_at s)) p ∙ ap (part_at s) e in
-      (q ∙ ap (λ (x : Answer). part_at s (form_given x)) k.settled, q ∙ k.reads)
+      (q ∙ ap (λ (x : Result Progressive Refusal). part_at s (form_given x)) k.settled, q ∙ k.reads)
 
 -- an answer says whether a form is found
-abbrev pub support_given : Answer → Supported
-support_given (Refused r) = supports.Refused r
-support_given (Given form) = supports.Given form.found
+abbrev pub support_given : Result Progressive Refusal → Result Bool Refusal
+support_given (Err r) = Err r
+support_given (Ok form) = Ok form.found
 
 module _ (w s : List ℕ) where
-  pub support_settled : (r a : Answer) → Analyzed w s r → r ≡ a → support_given a ≡ supported_of w s
+  pub support_settled : (r a : Result Progressive Refusal) → Analyzed w s r → r ≡ a → support_given a ≡ supported_of w s
   unfolding answer_of supported_of
   support_settled r a k e = ap support_given (sym e ∙ k.settled) ∙ by (inputs_of w s)
     where
-      by : (i : Inputs) → support_given (answer_if i w s) ≡ supported_if i w s
-      by inputs.Accepted = ap supports.Given (form-found s w (progressive_of (reply s) w))
-      by (inputs.Refused r) = refl
+      by : (i : Result (Unit {0}) Refusal) → support_given (answer_if i w s) ≡ supported_if i w s
+      by (Ok _) = ap Ok (form-found s w (progressive_of (reply s) w))
+      by (Err r) = refl
 
 -- the number of a refusal is the lowest that applies
 pub supported_lowest : (w s : List ℕ) → supported_numbers (supported_of w s) ≡ lowest_numbers w s
 unfolding supported_of
 supported_lowest w s = by (inputs_of w s) ∙ lowest w s
   where
-    by : (i : Inputs) → supported_numbers (supported_if i w s) ≡ numbers_given i
-    by inputs.Accepted = refl
-    by (inputs.Refused r) = refl
+    by : (i : Result (Unit {0}) Refusal) → supported_numbers (supported_if i w s) ≡ numbers_given i
+    by (Ok _) = refl
+    by (Err r) = refl

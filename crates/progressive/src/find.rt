@@ -1,14 +1,14 @@
-// The search for a progressive form and its lemma in an accepted sheet. `starts` are the first bytes of its lines.
+// The search for a progressive form and its lemma in an accepted sheet.
 // A question is asked in two parts, a part of the word and a fixed ending, so that nothing is joined.
 ghost use Rattle.std.specs.Prelude.{◌≡◌, ◌||◌, ◌++◌, ◌+◌, ◌≤◌, length};
 ghost use Rattle.runs.specs.Runs.{ends_in};
-ghost use Rattle.sheet.specs.Replies.{reply, Indexed};
 ghost use Rattle.lookup.specs.Answers.{text_at};
+ghost use Rattle.lookup.specs.Lexicons.{replies};
 ghost use Rattle.progressive.specs.Progressive.{sign_aa, letter_aa, is_verb, none, verb_or, regular, verb_told, lemma_of, is_shaped, is_progressive};
 ghost use Rattle.progressive.specs.Found.{ends_in_rahek, LemmaAt, no_form, form_with, FormAt};
 
-use lookup::answers::{Spot, letters_of, link_of, spot_of};
-use lookup::starts::Start;
+use lookup::answers::Spot;
+use lookup::lexicon::Lexicon;
 use runs::{begins_with, ends_with};
 
 // A progressive form: the main form is the word up to byte `main_end`, its न with it, and the auxiliary is the rest; the lemma's
@@ -23,27 +23,25 @@ pub struct Progressive {
 }
 
 // Whether the name that `p` and then `q` make is a verb.
-fn is_verb(sheet: &[u8], starts: &[Start], p: &[u8], q: &[u8]) -> bool
-    requires { Indexed sheet.now starts.now }
-    ensures { result ≡ is_verb (reply sheet.now) (p.now ++ q.now) }
+fn is_verb(sheet: &Lexicon<'_>, p: &[u8], q: &[u8]) -> bool
+    ensures { result ≡ is_verb (replies sheet.now) (p.now ++ q.now) }
 {
-    let letters = letters_of(sheet, starts, p, q);
+    let letters = sheet.letters_of(p, q);
     letters.verb
 }
 
 // Where the name that `p` and then `q` make stands, if it is a verb. The place is sought only then: most names asked are none.
-fn verb_at(sheet: &[u8], starts: &[Start], p: &[u8], q: &[u8]) -> Spot
-    requires { Indexed sheet.now starts.now }
-    ensures { LemmaAt sheet.now (verb_or (reply sheet.now) (p.now ++ q.now) none) result }
+fn verb_at(sheet: &Lexicon<'_>, p: &[u8], q: &[u8]) -> Spot
+    ensures { LemmaAt sheet.now.bytes.now (verb_or (replies sheet.now) (p.now ++ q.now) none) result }
 {
-    if !is_verb(sheet, starts, p, q) {
+    if !is_verb(sheet, p, q) {
         return Spot {
             found: false,
             at: 0,
             len: 0,
         };
     }
-    spot_of(sheet, starts, p, q)
+    sheet.spot_of(p, q)
 }
 
 // Whether a stem ends in ा or आ.
@@ -57,32 +55,31 @@ fn ends_in_aa(stem: &[u8]) -> bool
 }
 
 // The first verb among stem+नु, stem+्नु, stem+उनु and linked form+नु.
-fn regular_lemma(sheet: &[u8], starts: &[Start], linked: &[u8], stem: &[u8]) -> Spot
-    requires { Indexed sheet.now starts.now }
-    ensures { LemmaAt sheet.now (regular (reply sheet.now) linked.now stem.now) result }
+fn regular_lemma(sheet: &Lexicon<'_>, linked: &[u8], stem: &[u8]) -> Spot
+    ensures { LemmaAt sheet.now.bytes.now (regular (replies sheet.now) linked.now stem.now) result }
 {
-    let open = verb_at(sheet, starts, stem, b"\xE0\xA4\xA8\xE0\xA5\x81");
+    let open = verb_at(sheet, stem, b"\xE0\xA4\xA8\xE0\xA5\x81");
     if open.found {
         return open;
     }
-    let closed = verb_at(sheet, starts, stem, b"\xE0\xA5\x8D\xE0\xA4\xA8\xE0\xA5\x81");
+    let closed = verb_at(sheet, stem, b"\xE0\xA5\x8D\xE0\xA4\xA8\xE0\xA5\x81");
     if closed.found {
         return closed;
     }
     if !ends_in_aa(stem) {
-        return verb_at(sheet, starts, linked, b"\xE0\xA4\xA8\xE0\xA5\x81");
+        return verb_at(sheet, linked, b"\xE0\xA4\xA8\xE0\xA5\x81");
     }
-    let vowel = verb_at(sheet, starts, stem, b"\xE0\xA4\x89\xE0\xA4\xA8\xE0\xA5\x81");
+    let vowel = verb_at(sheet, stem, b"\xE0\xA4\x89\xE0\xA4\xA8\xE0\xA5\x81");
     if vowel.found {
         return vowel;
     }
-    verb_at(sheet, starts, linked, b"\xE0\xA4\xA8\xE0\xA5\x81")
+    verb_at(sheet, linked, b"\xE0\xA4\xA8\xE0\xA5\x81")
 }
 
 // Where the infinitive that a link line names stands, if it is a verb. `link` is the infinitive's part of the line, if there is one.
-fn linked_verb(sheet: &[u8], starts: &[Start], link: Spot) -> Spot
-    requires { Indexed sheet.now starts.now × (link.at + link.len ≤ length sheet.now) }
-    ensures { LemmaAt sheet.now (verb_told (reply sheet.now) (text_at sheet.now link)) result }
+fn linked_verb(sheet: &Lexicon<'_>, link: Spot) -> Spot
+    requires { (link.at + link.len ≤ length sheet.now.bytes.now) }
+    ensures { LemmaAt sheet.now.bytes.now (verb_told (replies sheet.now) (text_at sheet.now.bytes.now link)) result }
 {
     if !link.found {
         return Spot {
@@ -93,13 +90,12 @@ fn linked_verb(sheet: &[u8], starts: &[Start], link: Spot) -> Spot
     }
     let at = link.at;
     let end = at + link.len;
-    verb_at(sheet, starts, &sheet[at..end], b"")
+    verb_at(sheet, &sheet.bytes[at..end], b"")
 }
 
 // The lemma of a linked form and its stem. A link line decides alone, so that no verb of like spelling takes its place.
-fn supported_infinitive(sheet: &[u8], starts: &[Start], linked: &[u8], stem: &[u8]) -> Spot
-    requires { Indexed sheet.now starts.now }
-    ensures { LemmaAt sheet.now (lemma_of (reply sheet.now) linked.now stem.now) result }
+fn supported_infinitive(sheet: &Lexicon<'_>, linked: &[u8], stem: &[u8]) -> Spot
+    ensures { LemmaAt sheet.now.bytes.now (lemma_of (replies sheet.now) linked.now stem.now) result }
 {
     if stem.len() == 0 {
         return Spot {
@@ -115,12 +111,12 @@ fn supported_infinitive(sheet: &[u8], starts: &[Start], linked: &[u8], stem: &[u
             len: 0,
         };
     }
-    let link = link_of(sheet, starts, linked);
-    let named = linked_verb(sheet, starts, link);
+    let link = sheet.link_of(linked);
+    let named = linked_verb(sheet, link);
     if link.found {
         return named;
     }
-    regular_lemma(sheet, starts, linked, stem)
+    regular_lemma(sheet, linked, stem)
 }
 
 // Whether the word ends in रहेको, रहेकी or रहेका.
@@ -187,16 +183,14 @@ fn form_with(main_end: usize, negative: bool, lemma: Spot) -> Progressive
 }
 
 // The progressive form of the word, if it is one. The न is tried only where the search with it finds nothing.
-pub fn find_progressive(word: &[u8], sheet: &[u8], starts: &[Start]) -> Progressive
-    requires { Indexed sheet.now starts.now }
-    ensures { FormAt sheet.now word.now result }
+pub fn find_progressive(word: &[u8], sheet: &Lexicon<'_>) -> Progressive
+    ensures { FormAt sheet.now.bytes.now word.now result }
 {
     if !is_shaped(word) {
         return no_form();
     }
     if !is_verb(
         sheet,
-        starts,
         b"\xE0\xA4\xB0\xE0\xA4\xB9\xE0\xA4\xA8\xE0\xA5\x81",
         b"",
     ) {
@@ -204,14 +198,14 @@ pub fn find_progressive(word: &[u8], sheet: &[u8], starts: &[Start]) -> Progress
     }
     let main_end = word.len() - 15;
     let stem_end = word.len() - 18;
-    let lemma = supported_infinitive(sheet, starts, &word[..main_end], &word[..stem_end]);
+    let lemma = supported_infinitive(sheet, &word[..main_end], &word[..stem_end]);
     if lemma.found {
         return form_with(main_end, false, lemma);
     }
     if !begins_with(&word[..stem_end], b"\xE0\xA4\xA8") {
         return no_form();
     }
-    let positive = supported_infinitive(sheet, starts, &word[3..main_end], &word[3..stem_end]);
+    let positive = supported_infinitive(sheet, &word[3..main_end], &word[3..stem_end]);
     if !positive.found {
         return no_form();
     }
@@ -219,10 +213,9 @@ pub fn find_progressive(word: &[u8], sheet: &[u8], starts: &[Start]) -> Progress
 }
 
 // Whether the piece is a supported progressive form, one in which a lemma is found.
-pub fn has_supported_progressive_form(sheet: &[u8], starts: &[Start], piece: &[u8]) -> bool
-    requires { Indexed sheet.now starts.now }
-    ensures { result ≡ is_progressive (reply sheet.now) piece.now }
+pub fn has_supported_progressive_form(sheet: &Lexicon<'_>, piece: &[u8]) -> bool
+    ensures { result ≡ is_progressive (replies sheet.now) piece.now }
 {
-    let form = find_progressive(piece, sheet, starts);
+    let form = find_progressive(piece, sheet);
     form.found
 }

@@ -3,12 +3,12 @@
 -- the same length are the same bytes. Assumes nothing.
 use Rattle.std.specs.Prelude.{ℕ, Bool, true, false, List, ltb}
 use Rattle.runs.specs.Runs.{pick, cmp}
-use Rattle.runs.specs.declared.Order.{Order}
-use Rattle.runs.specs.declared.Order.TheVariants.{Less, Equal, Greater}
+use Rattle.std.specs.declared.cmp.Ordering.{Ordering}
+use Rattle.std.specs.declared.cmp.Ordering.TheVariants.{Less, Equal, Greater}
 use Rattle.ranking.specs.Parts.{part}
 use Rattle.ranking.specs.declared.Reading.{Reading}
 
-abbrev pub is_less : Order → Bool
+abbrev pub is_less : Ordering → Bool
 is_less Less = true
 is_less Equal = false
 is_less Greater = false

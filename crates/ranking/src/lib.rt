@@ -12,7 +12,8 @@ ghost use Rattle.ranking.specs.Lists.{list_limit, rows_of, with_origin};
 ghost use Rattle.ranking.specs.Stored.{no_segment};
 
 use origin::{OriginDecision, OriginSource};
-use runs::{Order, compare};
+use runs::compare;
+use std::cmp::Ordering;
 use tables::origins::Origin;
 
 // The most readings that a list holds.
@@ -108,9 +109,9 @@ fn root_less(word: &[u8], a: Reading, b: Reading) -> bool
 {
     let order = compare(root_of(word, a), root_of(word, b));
     match order {
-        Order::Less => true,
-        Order::Equal => false,
-        Order::Greater => false,
+        Ordering::Less => true,
+        Ordering::Equal => false,
+        Ordering::Greater => false,
     }
 }
 

@@ -1,5 +1,6 @@
 -- What is found of a sheet's lines: one text of the 25 after the other, one line after the other, codes that say their findings again, and
 -- the report written from them. The proofs of faults.rt, lines.rt and entry.rt cite these. Assumes nothing.
+use Rattle.std.specs.Prelude.{Ok}
 use Prim.Native.Nat.{ℕ, zero, suc, ◌+◌, ◌-◌, ◌*◌, ◌/◌, ◌%◌, ◌≤◌, ◌<◌}
 use native.Mathlib.Numerals.{add-one}
 use native.Mathlib.Omega.{arith}
@@ -9,11 +10,10 @@ use mathlib.Core.List.{List, [], ◌∷◌, ◌++◌}
 use lib.ListN.{length, take, drop, get_or, drop_of_length-le}
 use lib.Seq.{drop-cons}
 use Rattle.runs.specs.Runs.{cmp, same_text}
-use Rattle.runs.specs.declared.Order.{Order}
+use Rattle.std.specs.declared.cmp.Ordering.{Ordering}
 use Rattle.runs.proofs.Ordered.{is_equal, same_cmp}
 use Rattle.sheet.specs.Forms.{is_form, key, key_of}
 use Rattle.sheet.specs.Lines.{starts_of, line_at, sheet_check}
-use Rattle.sheet.specs.declared.check.SheetCheck.TheVariants.{Accepted}
 use Rattle.sheet.proofs.Accepted.{GoesUp, accepted_up}
 use Rattle.sheet.specs.Steps.{name_end}
 use Rattle.referred.proofs.Refers.{name-cut}
@@ -24,7 +24,7 @@ use Rattle.referred.specs.Codes.{code_for, code_of, codes_of}
 use Rattle.referred.specs.Coded.{FormsAt, fault_in, code_line, code_lines, coded_text}
 
 -- the order that a comparison told decides whether two keys are the same
-pub same_told : (a b : List ℕ) (o p : Order) → o ≡ cmp a b → o ≡ p → is_equal p ≡ same_text a b
+pub same_told : (a b : List ℕ) (o p : Ordering) → o ≡ cmp a b → o ≡ p → is_equal p ≡ same_text a b
 same_told a b o p e f = ap is_equal (sym f ∙ e) ∙ sym (same_cmp a b)
 
 -- one text, and those to come
@@ -120,19 +120,28 @@ module _ (s : List ℕ) where
   lines-coded [] = refl
   lines-coded (at ∷ places) = one_line at (fault_at s at) (findings_at s places) (lines-coded places)
 
-  one_form : (at : ℕ) (f : Fault) (rest : List Finding) → is_form (drop at s) ≡ true → FormsAt s (codes_of rest) → FormsAt s (codes_of (found at f ++ rest))
+  abbrev Forms : List ℕ → Type 0
+  Forms [] = Unit {0}
+  Forms (c ∷ cs) = (is_form (drop (c / 256) s) ≡ true) × Forms cs
+
+  form-there : (cs : List ℕ) → Forms cs → FormsAt s cs
+  form-there [] f k h = absurd (omega arith)
+  form-there (c ∷ cs) f zero h = f.0
+  form-there (c ∷ cs) f (suc k) h = form-there cs f.1 k (omega arith)
+
+  one_form : (at : ℕ) (f : Fault) (rest : List Finding) → is_form (drop at s) ≡ true → Forms (codes_of rest) → Forms (codes_of (found at f ++ rest))
   one_form at Sound rest h k = k
   one_form at Missing rest h k = (rw (code-back s at Missing (omega arith)).0 h, k)
   one_form at NotVerb rest h k = (rw (code-back s at NotVerb (omega arith)).0 h, k)
   one_form at Unused rest h k = (rw (code-back s at Unused (omega arith)).0 h, k)
 
-  forms_up : (last places : List ℕ) → GoesUp s last places → FormsAt s (codes_of (findings_at s places))
+  forms_up : (last places : List ℕ) → GoesUp s last places → Forms (codes_of (findings_at s places))
   unfolding findings_at
   forms_up last [] g = tt
   forms_up last (at ∷ places) g = one_form at (fault_at s at) (findings_at s places) g.0 (forms_up (key (line_at s at)) places g.2)
 
-  pub forms-coded : sheet_check s ≡ Accepted → FormsAt s (codes_of (findings_of s))
-  forms-coded h = forms_up [] (starts_of s) (accepted_up s h)
+  pub forms-coded : sheet_check s ≡ Ok tt → FormsAt s (codes_of (findings_of s))
+  forms-coded h = form-there (codes_of (findings_of s)) (forms_up [] (starts_of s) (accepted_up s h))
 
   pub text-coded : coded_text s (codes_of (findings_of s)) ≡ report_text s
   unfolding coded_text report_text
@@ -147,11 +156,6 @@ module _ (s cs : List ℕ) (i : ℕ) where
   pub lines_end : length cs ≤ i → code_lines s (drop i cs) ≡ []
   unfolding code_lines
   lines_end h = rw (drop_of_length-le cs h)
-
-pub form-there : (s cs : List ℕ) (i : ℕ) → FormsAt s cs → i < length cs → is_form (drop (get_or cs i 0 / 256) s) ≡ true
-form-there s [] i f h = absurd (omega arith)
-form-there s (c ∷ cs) zero f h = f.0
-form-there s (c ∷ cs) (suc i) f h = form-there s cs i f.1 (omega arith)
 
 -- a code's line, put in three parts
 pub coded-line : (s : List ℕ) (c : ℕ) (f : Fault) (end : ℕ) → is_form (drop (c / 256) s) ≡ true → f ≡ fault_in c → end ≡ name_end s (c / 256)

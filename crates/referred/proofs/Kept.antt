@@ -1,12 +1,11 @@
 -- The codes of the lines passed so far, kept at the front of a list. The proof of `faults::find_in` cites these. Assumes nothing.
 use Prim.Native.Nat.{ℕ, zero, suc, ◌+◌, ◌≤◌, ◌<◌}
-use native.Mathlib.Numerals.{add-one}
 use native.Mathlib.Omega.{arith}
 use mathlib.Core.Path.{◌≡◌, refl, sym, ap, subst, ◌∙◌}
 use mathlib.Core.Bool.{Bool, true, false}
-use mathlib.Core.List.{List, ◌∷◌, ◌++◌, append-nil}
-use lib.ListN.{length, take, drop, get_or, set, length-set, take-append-drop, drop_of_length-le}
-use lib.Seq.{length-take-le, drop-cons}
+use mathlib.Core.List.{List, ◌++◌, append-nil}
+use lib.ListN.{length, take, drop, get_or, set, length-set, take-append-drop}
+use lib.Seq.{length-take-le}
 use lib.Dec.{eqb}
 use borrow.Author.Tests.{eqb-true, eqb-false}
 use Rattle.runs.specs.Runs.{pick}
@@ -58,23 +57,3 @@ module _ (s starts old : List ℕ) where
           sym l ∙ ap length (sym a) ∙ codes_length (findings_at s starts),
           sym (take-append-drop n out) ∙ ap (λ (x : List ℕ). x ++ drop n out) (sym a) ∙ ap (λ (x : List ℕ). codes_of (findings_at s starts) ++ x) k.rest,
         )
-
--- numbers copied to the front of a list, of which i are there
-module _ (codes old out : List ℕ) (i : ℕ) (h : i ≤ length codes) (l : length out ≡ length old) (a : codes ≡ take i out ++ drop i codes) (r : drop i out ≡ drop i old) where
-  pub copied_more : i < length codes → length codes ≤ length old
-      → (i + 1 ≤ length codes) × (length (set out i (get_or codes i 0)) ≡ length old) × (codes ≡ take (i + 1) (set out i (get_or codes i 0)) ++ drop (i + 1) codes)
-      × (drop (i + 1) (set out i (get_or codes i 0)) ≡ drop (i + 1) old)
-  copied_more k room =
-      let m : i < length out = omega arith in (
-        omega arith,
-        simp length-set l,
-        a ∙ ap (λ (x : List ℕ). take i out ++ x) (drop-cons codes i 0 k ∙ ap (λ (x : ℕ). get_or codes i 0 ∷ drop x codes) (sym (add-one i)))
-            ∙ sym (stored-front out old i (get_or codes i 0) m (drop (i + 1) codes)),
-        stored-behind out old i (get_or codes i 0) m r,
-      )
-
-  pub copied_all : length codes ≤ i → length codes ≤ length old → out ≡ codes ++ drop (length codes) old
-  copied_all k room =
-      let e : codes ≡ take i out = a ∙ ap (λ (x : List ℕ). take i out ++ x) (drop_of_length-le codes k) ∙ append-nil (take i out) in
-      let n : i ≡ length codes = omega arith in
-      sym (take-append-drop i out) ∙ ap (λ (x : List ℕ). x ++ drop i out) (sym e) ∙ ap (λ (x : List ℕ). codes ++ x) (r ∙ ap (λ (x : ℕ). drop x old) n)

@@ -1,5 +1,7 @@
 -- Request (k) as theorems: what is found of a line, said of the sheet's lines; that nothing is found exactly where every reference holds;
 -- which lines are reported, in which order; which number is given; how much room is enough. Assumes nothing.
+use Rattle.std.specs.Prelude.{Err, Ok, Result}
+use Rattle.refusals.specs.declared.Refusal.{Refusal}
 use Prim.Native.Nat.{ℕ, suc, ◌+◌, ◌*◌, ◌/◌, ◌≤◌, ◌<◌}
 use native.Mathlib.Omega.{arith}
 use mathlib.Core.Path.{◌≡◌, refl, sym, ap, subst, ◌∙◌}
@@ -11,11 +13,10 @@ use lib.ListN.{length, length-append}
 use lib.Dec.{eqb, ltb}
 use borrow.Author.Tests.{eqb-true, eqb-false, eq-eqb, le-leb}
 use Rattle.runs.specs.Runs.{pick, cmp, same_text}
-use Rattle.runs.specs.declared.Order.TheVariants.{Less}
+use Rattle.std.specs.declared.cmp.Ordering.TheVariants.{Less}
 use Rattle.runs.proofs.Ordered.{cmp_trans, cmp_refl, same_refl, same_true}
 use Rattle.tables.specs.Tables.{affixes}
 use Rattle.refusals.specs.Refusals.{written_numbers, cause_if, lowest_numbers_of, or_else}
-use Rattle.refusals.specs.declared.Written.TheVariants.{Wrote}
 use Rattle.refusals.proofs.Lowest.{AtLeast}
 use Rattle.refusals.proofs.Outputs.{room_lowest}
 use Rattle.refusals.specs.declared.Refusal.TheVariants.{OutputTooShort}
@@ -26,11 +27,8 @@ use Rattle.sheet.specs.Letters.{letters_of}
 use Rattle.sheet.specs.Forms.{Entry, key, key_of}
 use Rattle.sheet.specs.Lines.{starts_from, starts_of, line_at, lines_of, sheet_check}
 use Rattle.sheet.specs.Inputs.{by_sheet, inputs_of, numbers_given, causes}
-use Rattle.sheet.specs.declared.inputs.Inputs.{Inputs}
-use Rattle.sheet.specs.declared.inputs.Inputs.TheVariants as inputs
 use Rattle.sheet.proofs.Refusals.{lowest_then}
 use Rattle.sheet.specs.Replies.{Reply, unknown, told, reply_in, reply}
-use Rattle.sheet.specs.declared.check.SheetCheck.TheVariants.{Accepted}
 use Rattle.sheet.proofs.Texts.{Rises, accepted_rises}
 use Rattle.writing.specs.Decimal.{decimal, digits_in}
 use Rattle.referred.specs.declared.Fault.{Fault}
@@ -102,7 +100,7 @@ member_text k (u ∷ ts) t m e = ⊎_elim here (λ n. there (member_text k ts t 
     there : is_text k ts ≡ true → is_text k (u ∷ ts) ≡ true
     there q = rw q (or_true (same_text k (key_of 0x6B u)))
 
-module _ (s : List ℕ) (h : sheet_check s ≡ Accepted) where
+module _ (s : List ℕ) (h : sheet_check s ≡ Ok tt) where
   -- what the verb's line says decides
   verb_of : (e : Entry) → (r : Reply) → reply s 0x77 e.value ≡ r → (v : List ℕ) → r ≡ told v → (f : Entry) × VerbLine (lines_of s) e f × (f.value ≡ v)
   unfolding reply
@@ -265,7 +263,7 @@ module _ (s : List ℕ) where
   none_zero e = rw e
 
   -- (check 0) is written exactly where every reference holds
-  pub zero_exactly : sheet_check s ≡ Accepted → (report_text s ≡ check_zero) ↔ AllHold (lines_of s)
+  pub zero_exactly : sheet_check s ≡ Ok tt → (report_text s ≡ check_zero) ↔ AllHold (lines_of s)
   zero_exactly h = (λ e. (none_exactly s h).0 (zero_none e), λ w. none_zero ((none_exactly s h).1 w))
 
   -- what is reported are the lines whose reference does not hold, and nothing besides
@@ -351,15 +349,15 @@ module _ (s : List ℕ) where
 
   lowest_by : (size room : ℕ) → written_numbers (answered_by (by_sheet (sheet_check s)) size room) ≡ lowest_numbers_of (causes [] s ++ cause_if (ltb room size) OutputTooShort)
   lowest_by size room =
-      sym (lowest_then [] s (cause_if (ltb room size) OutputTooShort) (seven (ltb room size)) ∙ ap (λ (i : Inputs). or_else (numbers_given i) (lowest_numbers_of (cause_if (ltb room size) OutputTooShort))) no_word ∙ by (by_sheet (sheet_check s)))
+      sym (lowest_then [] s (cause_if (ltb room size) OutputTooShort) (seven (ltb room size)) ∙ ap (λ (i : Result (Unit {0}) Refusal). or_else (numbers_given i) (lowest_numbers_of (cause_if (ltb room size) OutputTooShort))) no_word ∙ by (by_sheet (sheet_check s)))
     where
       seven : (b : Bool) → AtLeast 7 (cause_if b OutputTooShort)
       seven true = (omega arith, tt)
       seven false = tt
 
-      by : (i : Inputs) → or_else (numbers_given i) (lowest_numbers_of (cause_if (ltb room size) OutputTooShort)) ≡ written_numbers (answered_by i size room)
-      by inputs.Accepted = sym (room_lowest size room)
-      by (inputs.Refused r) = refl
+      by : (i : Result (Unit {0}) Refusal) → or_else (numbers_given i) (lowest_numbers_of (cause_if (ltb room size) OutputTooShort)) ≡ written_numbers (answered_by i size room)
+      by (Ok _) = sym (room_lowest size room)
+      by (Err r) = refl
 
   pub report_lowest : (out : List ℕ) → written_numbers (report_outcome s out) ≡ lowest_numbers_of (causes [] s ++ cause_if (ltb (length out) (length (report_text s))) OutputTooShort)
   unfolding report_outcome
@@ -370,15 +368,15 @@ module _ (s : List ℕ) where
   found_lowest out = lowest_by (length (codes_of (findings_of s))) (length out)
 
   -- the sheet's length and 13 bytes are always enough for the report, as many places as it has lines for the findings
-  pub report_enough : sheet_check s ≡ Accepted → (out : List ℕ) → length s + 13 ≤ length out → report_outcome s out ≡ Wrote (length (report_text s))
+  pub report_enough : sheet_check s ≡ Ok tt → (out : List ℕ) → length s + 13 ≤ length out → report_outcome s out ≡ Ok (length (report_text s))
   unfolding report_outcome
   report_enough h out k = rw (h, le-leb (length (report_text s)) (length out) (omega (arith, report_size s h)))
 
-  pub found_enough : sheet_check s ≡ Accepted → (out : List ℕ) → length (starts_of s) ≤ length out → found_outcome s out ≡ Wrote (length (findings_of s))
+  pub found_enough : sheet_check s ≡ Ok tt → (out : List ℕ) → length (starts_of s) ≤ length out → found_outcome s out ≡ Ok (length (findings_of s))
   unfolding found_outcome
   found_enough h out k =
       let n = codes_length (findings_of s) in
-      rw (h, le-leb (length (codes_of (findings_of s))) (length out) (omega (arith, findings_few s (starts_of s), n))) (ap Wrote n)
+      rw (h, le-leb (length (codes_of (findings_of s))) (length out) (omega (arith, findings_few s (starts_of s), n))) (ap Ok n)
 
   -- a code says its finding again
   pub read_back_lem : (f : Finding) → Memᴰ f (findings_of s) → (code_of f / 256 ≡ f.line) × (fault_in (code_of f) ≡ f.fault)

@@ -7,11 +7,9 @@ use mathlib.Core.List.{List, [], ◌++◌, append-nil}
 use lib.ListN.{length, take, drop, get_or}
 use borrow.Author.Tests.{eq-eqb, ne_eqb}
 use Rattle.runs.specs.Runs.{pick, cmp, same_text}
-use Rattle.runs.specs.declared.Order.{Order}
+use Rattle.std.specs.declared.cmp.Ordering.{Ordering}
 use Rattle.runs.proofs.Ordered.{is_equal, same_cmp}
-use Rattle.tables.specs.Tables.{Laid, row_at, affixes}
-use Rattle.tables.proofs.Laid.{laid-row}
-use Rattle.tables.proofs.Facts.{affix_count}
+use Rattle.tables.specs.Tables.{affixes}
 use Rattle.sheet.specs.Limits.{sheet_limit}
 use Rattle.sheet.specs.Letters.{letters_of}
 use Rattle.sheet.specs.Forms.{is_form, key, key_of}
@@ -30,11 +28,11 @@ use Rattle.referred.specs.declared.Fault.TheVariants.{Sound, NotVerb, Unused}
 use Rattle.referred.specs.Report.{verb_fault, is_text, fault_of, fault_at}
 
 -- a line compared with the question for text k tells whether it names it
-pub named-told : (x texts cuts row : List ℕ) (k : ℕ) (o p : Order) → Laid affixes texts cuts → k < 25 → row ≡ row_at texts cuts k
-    → o ≡ cmp x (key_of 0x6B (row ++ [])) → o ≡ p → is_equal p ≡ same_text x (key_of 0x6B (get_or affixes k []))
-named-told x texts cuts row k o p laid h r e f =
-    let t : row ++ [] ≡ get_or affixes k [] = append-nil row ∙ r ∙ laid-row laid k (omega (arith, affix_count)) in
-    ap is_equal (sym f ∙ e) ∙ sym (same_cmp x (key_of 0x6B (row ++ []))) ∙ ap (λ (y : List ℕ). same_text x (key_of 0x6B y)) t
+pub named-told : (x row : List ℕ) (k : ℕ) (o : Ordering) → row ≡ get_or affixes k [] → o ≡ cmp x (key_of 0x6B (row ++ []))
+    → is_equal o ≡ same_text x (key_of 0x6B (get_or affixes k []))
+named-told x row k o r e =
+    let t : row ++ [] ≡ get_or affixes k [] = append-nil row ∙ r in
+    ap is_equal e ∙ sym (same_cmp x (key_of 0x6B (row ++ []))) ∙ ap (λ (y : List ℕ). same_text x (key_of 0x6B y)) t
 
 -- the verb that was found has v, or not
 pub verb_read : (s name : List ℕ) (r : Spot) → ValueOf s 0x77 name r → r.found ≡ true → (l : Letters) (b : Bool)

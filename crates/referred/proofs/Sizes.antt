@@ -1,4 +1,5 @@
 -- How long a report is: no line of it is longer than the line that it speaks of. Assumes nothing.
+use Rattle.std.specs.Prelude.{Ok}
 use Prim.Native.Nat.{ℕ, suc, ◌+◌, ◌≤◌, ◌<◌}
 use native.Mathlib.Omega.{arith}
 use mathlib.Core.Path.{◌≡◌, refl, ap}
@@ -16,7 +17,6 @@ use Rattle.sheet.specs.Letters.{letters_of, is_letters}
 use Rattle.sheet.specs.Forms.{Entry, written, is_name, is_kind, is_meant, key, sign_i, letter_i, syllable_nu}
 use Rattle.sheet.specs.Lines.{starts_of, line_at, sheet_text, sheet_check}
 use Rattle.sheet.specs.Replies.{Ask, Reply, reply}
-use Rattle.sheet.specs.declared.check.SheetCheck.TheVariants.{Accepted}
 use Rattle.sheet.proofs.Accepted.{GoesUp, accepted_up}
 use Rattle.sheet.proofs.Forms.{written-length, form_meant}
 use Rattle.sheet.proofs.Texts.{accepted-text}
@@ -103,7 +103,7 @@ module _ (s : List ℕ) where
   findings_few (at ∷ places) = omega (arith, one_more at (fault_at s at) (findings_at s places), findings_few places)
 
   -- the sheet's length and 13 bytes are always enough for its report
-  pub report_size : sheet_check s ≡ Accepted → length (report_text s) ≤ length s + 13
+  pub report_size : sheet_check s ≡ Ok tt → length (report_text s) ≤ length s + 13
   unfolding report_text
   report_size h =
       let l = lines-size [] (starts_of s) (accepted_up s h) in

@@ -1,5 +1,5 @@
 -- The report as it is written from codes. Assumes nothing.
-use Rattle.std.specs.Prelude.{ℕ, ◌/◌, ◌%◌, ◌≡◌, true, List, [], ◌∷◌, ◌++◌, length, drop, eqb}
+use Rattle.std.specs.Prelude.{ℕ, ◌<◌, ◌/◌, ◌%◌, ◌≡◌, true, List, [], ◌∷◌, ◌++◌, length, drop, get_or, eqb}
 use Rattle.runs.specs.Runs.{pick}
 use Rattle.sheet.specs.Forms.{is_form}
 use Rattle.sheet.specs.Lines.{line_at}
@@ -10,8 +10,7 @@ use Rattle.referred.specs.Report.{before, behind}
 
 -- a form stands at each place that a code says
 abbrev pub FormsAt : List ℕ → List ℕ → Type 0
-FormsAt s [] = Unit {0}
-FormsAt s (c ∷ cs) = (is_form (drop (c / 256) s) ≡ true) × FormsAt s cs
+FormsAt s cs = (k : ℕ) → k < length cs → is_form (drop (get_or cs k 0 / 256) s) ≡ true
 
 unfoldable pub fault_in : ℕ → Fault
 fault_in c = pick (eqb (c % 256) 1) Missing (pick (eqb (c % 256) 2) NotVerb (pick (eqb (c % 256) 3) Unused Sound))

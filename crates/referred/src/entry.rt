@@ -1,6 +1,5 @@
 // The check of what a sheet's lines refer to, for any sheet: its findings into a lent list, or its report into a lent buffer.
-ghost use Rattle.std.specs.Prelude.{◌≡◌, ◌++◌, ◌≤◌, length, drop};
-ghost use Rattle.sheet.specs.Replies.{Indexed};
+ghost use Rattle.std.specs.Prelude.{◌≡◌, ◌≤◌, length};
 ghost use Rattle.lookup.specs.Starts.{Room};
 ghost use Rattle.refusals.specs.Refusals.{room_for, output_by};
 ghost use Rattle.writing.specs.Placed.{Answer};
@@ -9,79 +8,81 @@ ghost use Rattle.referred.specs.Codes.{codes_of};
 ghost use Rattle.referred.specs.Answers.{report_outcome, report_left, found_outcome, found_left};
 
 use crate::faults::find_in;
-use crate::lines::write_report;
-use lookup::lines::prepare_sheet;
+use crate::lines::Report;
+use lookup::lexicon::Lexicon;
+use lookup::lines::check_lines;
 use lookup::starts::Start;
-use refusals::{Refusal, Written};
-use sheet::inputs::Inputs;
+use refusals::Refusal;
 use sheet::limits::{ALL_STARTS, FEW_STARTS, SMALL_BYTES};
-
-// Copies numbers to the front of `out`, which has room for them.
-fn copy_codes(codes: &[u32], out: &mut [u32])
-    requires { length codes.now ≤ length out.old }
-    ensures { out.new ≡ codes.now ++ drop (length codes.now) out.old }
-{
-    let mut i: usize = 0;
-    while i < codes.len() {
-        out[i] = codes[i];
-        i += 1;
-    }
-}
+use writing::write_whole;
 
 // The findings of an accepted sheet, whose list is `starts`; `found` has room for each of its lines.
-fn codes_in(sheet: &[u8], starts: &[Start], found: &mut [u32], out: &mut [u32]) -> Written
-    requires { Indexed sheet.now starts.now × (length starts.now ≤ length found.old) }
-    ensures { (result ≡ room_for (length (codes_of (findings_of sheet.now))) (length out.old)) × (out.new ≡ output_by result (codes_of (findings_of sheet.now)) out.old) }
+fn codes_in(sheet: &Lexicon<'_>, found: &mut [u32], out: &mut [u32]) -> Result<usize, Refusal>
+    requires { (length sheet.now.starts.now ≤ length found.old) }
+    ensures { (result ≡ room_for (length (codes_of (findings_of sheet.now.bytes.now))) (length out.old)) × (out.new ≡ output_by result (codes_of (findings_of sheet.now.bytes.now)) out.old) }
 {
-    let n = find_in(sheet, starts, found);
+    let n = find_in(sheet, found);
     if out.len() < n {
-        return Written::Refused(Refusal::OutputTooShort);
+        return Err(Refusal::OutputTooShort);
     }
-    copy_codes(&found[..n], out);
-    Written::Wrote(n)
+    out[..n].copy_from_slice(&found[..n]);
+    Ok(n)
 }
 
 // The report of an accepted sheet, likewise.
-fn report_in(sheet: &[u8], starts: &[Start], found: &mut [u32], out: &mut [u8]) -> Written
-    requires { Indexed sheet.now starts.now × (length starts.now ≤ length found.old) }
-    ensures { Answer (report_text sheet.now) out.old out.new result }
+fn report_in(sheet: &Lexicon<'_>, found: &mut [u32], out: &mut [u8]) -> Result<usize, Refusal>
+    requires { (length sheet.now.starts.now ≤ length found.old) }
+    ensures { Answer (report_text sheet.now.bytes.now) out.old out.new result }
 {
-    let n = find_in(sheet, starts, found);
-    write_report(sheet, &found[..n], out)
+    let n = find_in(sheet, found);
+    let codes = &found[..n];
+    let report = Report {
+        sheet: sheet.bytes,
+        codes,
+    };
+    write_whole(&report, out)
 }
 
 // The findings of any sheet, with two lists that have room for a number for each of its lines.
-fn codes_by(sheet: &[u8], starts: &mut [Start], found: &mut [u32], out: &mut [u32]) -> Written
+fn codes_by(
+    sheet: &[u8],
+    starts: &mut [Start],
+    found: &mut [u32],
+    out: &mut [u32],
+) -> Result<usize, Refusal>
     requires { Room sheet.now starts.old × (length starts.old ≤ length found.old) }
     ensures { (result ≡ found_outcome sheet.now out.old) × (out.new ≡ found_left sheet.now out.old) }
 {
-    let ready = prepare_sheet(sheet, starts);
-    let lines = ready.lines;
-    let inputs = ready.inputs;
-    match inputs {
-        Inputs::Refused(refusal) => Written::Refused(refusal),
-        Inputs::Accepted => codes_in(sheet, &starts[..lines], found, out),
-    }
+    let lines = check_lines(sheet, starts)?;
+    let lexicon = Lexicon {
+        bytes: sheet,
+        starts: &starts[..lines],
+    };
+    codes_in(&lexicon, found, out)
 }
 
 // The report of any sheet, likewise.
-fn report_by(sheet: &[u8], starts: &mut [Start], found: &mut [u32], out: &mut [u8]) -> Written
+fn report_by(
+    sheet: &[u8],
+    starts: &mut [Start],
+    found: &mut [u32],
+    out: &mut [u8],
+) -> Result<usize, Refusal>
     requires { Room sheet.now starts.old × (length starts.old ≤ length found.old) }
     ensures { (result ≡ report_outcome sheet.now out.old) × (out.new ≡ report_left sheet.now out.old) }
 {
-    let ready = prepare_sheet(sheet, starts);
-    let lines = ready.lines;
-    let inputs = ready.inputs;
-    match inputs {
-        Inputs::Refused(refusal) => Written::Refused(refusal),
-        Inputs::Accepted => report_in(sheet, &starts[..lines], found, out),
-    }
+    let lines = check_lines(sheet, starts)?;
+    let lexicon = Lexicon {
+        bytes: sheet,
+        starts: &starts[..lines],
+    };
+    report_in(&lexicon, found, out)
 }
 
 // Stores the lines of the sheet whose reference does not hold at the front of `out`, in the sheet's order, one number each: what is wrong in
 // the lowest byte (1 missing, 2 notverb, 3 unused), above it the line's first byte. A refused sheet (4 to 6) and too short a list (8)
 // leave it as it was. As many places as the sheet has lines are always enough.
-pub fn find_references(sheet: &[u8], out: &mut [u32]) -> Written
+pub fn find_references(sheet: &[u8], out: &mut [u32]) -> Result<usize, Refusal>
     ensures { (result ≡ found_outcome sheet.now out.old) × (out.new ≡ found_left sheet.now out.old) }
 {
     if sheet.len() <= SMALL_BYTES {
@@ -96,7 +97,7 @@ pub fn find_references(sheet: &[u8], out: &mut [u32]) -> Written
 
 // Writes the report of the sheet at the front of `out`: (check N) and a line for each of its lines whose reference does not hold. A
 // refused sheet (4 to 6) and too short a buffer (8) leave it as it was. The sheet's length and 13 bytes are always enough.
-pub fn write_references(sheet: &[u8], out: &mut [u8]) -> Written
+pub fn write_references(sheet: &[u8], out: &mut [u8]) -> Result<usize, Refusal>
     ensures { (result ≡ report_outcome sheet.now out.old) × (out.new ≡ report_left sheet.now out.old) }
 {
     if sheet.len() <= SMALL_BYTES {

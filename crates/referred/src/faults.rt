@@ -3,60 +3,50 @@ ghost use Rattle.std.specs.Prelude.{◌≡◌, true, [], ◌++◌, ◌+◌, ◌�
 ghost use Rattle.runs.specs.Runs.{pick, same_text};
 ghost use Rattle.sheet.specs.Forms.{is_form, key, key_of};
 ghost use Rattle.sheet.specs.Lines.{line_at};
-ghost use Rattle.sheet.specs.Replies.{Indexed, reply};
-ghost use Rattle.tables.specs.Tables.{Laid, affixes};
+ghost use Rattle.sheet.specs.Replies.{reply};
+ghost use Rattle.tables.specs.Tables.{affixes};
 ghost use Rattle.referred.specs.Report.{is_text, verb_fault, fault_at, findings_of};
 ghost use Rattle.referred.specs.Codes.{code_for, codes_of};
 
 use crate::Fault;
-use lookup::answers::value_of;
+use lookup::lexicon::Lexicon;
 use lookup::starts::Start;
-use runs::Order;
 use sheet::keys::line_order;
 use sheet::letters::read_letters;
 use sheet::line::{name_end, value_end};
-use tables::row;
 
 // Whether the kind line that begins at `at` names text k of the 25. A form stands there.
-fn names_text(sheet: &[u8], texts: &[u8], cuts: &[u16], at: usize, k: usize) -> bool
-    requires { (is_form (drop at sheet.now) ≡ true) × Laid affixes texts.now cuts.now × (k < 25) }
+fn names_text(sheet: &[u8], at: usize, k: usize) -> bool
+    requires { (is_form (drop at sheet.now) ≡ true) × (k < 25) }
     ensures { result ≡ same_text (key (line_at sheet.now at)) (key_of 0x6B (get_or affixes k [])) }
 {
-    let order = line_order(sheet, at, b'k', row(texts, cuts, k), b"");
-    match order {
-        Order::Less => false,
-        Order::Equal => true,
-        Order::Greater => false,
-    }
+    line_order(sheet, at, b'k', tables::affix(k), b"").is_eq()
 }
 
 // Whether it names one of them.
-fn names_any(sheet: &[u8], texts: &[u8], cuts: &[u16], at: usize) -> bool
-    requires { (is_form (drop at sheet.now) ≡ true) × Laid affixes texts.now cuts.now }
+fn names_any(sheet: &[u8], at: usize) -> bool
+    requires { is_form (drop at sheet.now) ≡ true }
     ensures { result ≡ is_text (key (line_at sheet.now at)) affixes }
 {
-    let mut k: usize = 0;
-    while k < 25 {
-        if names_text(sheet, texts, cuts, at, k) {
+    for k in 0..25 {
+        if names_text(sheet, at, k) {
             return true;
         }
-        k += 1;
     }
     false
 }
 
-// What is wrong with the verb that a link names. The sheet is accepted and `starts` is its list.
-fn verb_fault(sheet: &[u8], starts: &[Start], infinitive: &[u8]) -> Fault
-    requires { Indexed sheet.now starts.now }
-    ensures { result ≡ verb_fault (reply sheet.now 0x77 infinitive.now) }
+// What is wrong with the verb that a link names.
+fn verb_fault(sheet: &Lexicon<'_>, infinitive: &[u8]) -> Fault
+    ensures { result ≡ verb_fault (reply sheet.now.bytes.now 0x77 infinitive.now) }
 {
-    let v = value_of(sheet, starts, b'w', infinitive, b"");
+    let v = sheet.value_of(b'w', infinitive, b"");
     if !v.found {
         return Fault::Missing;
     }
     let at = v.at;
     let end = at + v.len;
-    let letters = read_letters(&sheet[at..end]);
+    let letters = read_letters(&sheet.bytes[at..end]);
     if letters.verb {
         return Fault::Sound;
     }
@@ -64,19 +54,19 @@ fn verb_fault(sheet: &[u8], starts: &[Start], infinitive: &[u8]) -> Fault
 }
 
 // What is wrong with what the line that begins at `at` refers to. A form stands there.
-fn line_fault(sheet: &[u8], starts: &[Start], texts: &[u8], cuts: &[u16], at: usize) -> Fault
-    requires { Indexed sheet.now starts.now × Laid affixes texts.now cuts.now × (is_form (drop at sheet.now) ≡ true) }
-    ensures { result ≡ fault_at sheet.now at }
+fn line_fault(sheet: &Lexicon<'_>, at: usize) -> Fault
+    requires { is_form (drop at sheet.now.bytes.now) ≡ true }
+    ensures { result ≡ fault_at sheet.now.bytes.now at }
 {
-    let letter = sheet[at + 1];
+    let letter = sheet.bytes[at + 1];
     if letter == b'l' {
-        let end = name_end(sheet, at);
-        let to = value_end(sheet, at, end);
+        let end = name_end(sheet.bytes, at);
+        let to = value_end(sheet.bytes, at, end);
         let from = end + 2;
-        return verb_fault(sheet, starts, &sheet[from..to]);
+        return verb_fault(sheet, &sheet.bytes[from..to]);
     }
     if letter == b'k' {
-        if names_any(sheet, texts, cuts, at) {
+        if names_any(sheet.bytes, at) {
             return Fault::Sound;
         }
         return Fault::Unused;
@@ -98,19 +88,13 @@ fn code_of(at: usize, fault: Fault) -> u32
     }
 }
 
-fn wide(x: Start) -> usize
-    ensures { result ≡ x }
-{
-    x as usize
-}
-
 // The code of line i, which is 0 where nothing is wrong with it.
-fn code_at(sheet: &[u8], starts: &[Start], texts: &[u8], cuts: &[u16], i: usize) -> u32
-    requires { Indexed sheet.now starts.now × Laid affixes texts.now cuts.now × (i < length starts.now) }
-    ensures { result ≡ code_for (get_or starts.now i 0) (fault_at sheet.now (get_or starts.now i 0)) }
+fn code_at(sheet: &Lexicon<'_>, i: usize) -> u32
+    requires { i < length sheet.now.starts.now }
+    ensures { result ≡ code_for (get_or sheet.now.starts.now i 0) (fault_at sheet.now.bytes.now (get_or sheet.now.starts.now i 0)) }
 {
-    let at = wide(starts[i]);
-    code_of(at, line_fault(sheet, starts, texts, cuts, at))
+    let at = usize::from(sheet.starts[i]);
+    code_of(at, line_fault(sheet, at))
 }
 
 // Stores a code at place n, unless it says that nothing is wrong, and gives the next place.
@@ -127,18 +111,13 @@ fn keep(out: &mut [u32], n: usize, code: u32) -> usize
 
 // Stores the codes of the lines whose reference does not hold at the front of `out`, in the sheet's order, and gives how many there are.
 // The sheet is accepted, `starts` is its list, and `out` has room for each of its lines.
-pub(crate) fn find_in(sheet: &[u8], starts: &[Start], out: &mut [u32]) -> usize
-    requires { Indexed sheet.now starts.now × (length starts.now ≤ length out.old) }
-    ensures { (result ≡ length (findings_of sheet.now)) × (out.new ≡ codes_of (findings_of sheet.now) ++ drop result out.old) }
+pub(crate) fn find_in(sheet: &Lexicon<'_>, out: &mut [u32]) -> usize
+    requires { length sheet.now.starts.now ≤ length out.old }
+    ensures { (result ≡ length (findings_of sheet.now.bytes.now)) × (out.new ≡ codes_of (findings_of sheet.now.bytes.now) ++ drop result out.old) }
 {
-    let texts = tables::affixes();
-    let cuts = tables::affix_starts();
     let mut n: usize = 0;
-    let mut i: usize = 0;
-    while i < starts.len() {
-        let code = code_at(sheet, starts, &texts, &cuts, i);
-        n = keep(out, n, code);
-        i += 1;
+    for i in 0..sheet.starts.len() {
+        n = keep(out, n, code_at(sheet, i));
     }
     n
 }

@@ -1,106 +1,83 @@
 // The report as text.
-ghost use Rattle.std.specs.Prelude.{◌≡◌, true, ◌/◌, length, drop};
+ghost use Rattle.std.specs.Prelude.{ℕ, List, ◌≡◌, true, ◌/◌, drop};
 ghost use Rattle.sheet.specs.Forms.{is_form};
-ghost use Rattle.sheet.specs.Lines.{line_at};
-ghost use Rattle.writing.specs.Placed.{Wrote, Answer};
+ghost use Rattle.writing.specs.Writers.{with_text};
 ghost use Rattle.referred.specs.Report.{before, behind};
-ghost use Rattle.referred.specs.Coded.{FormsAt, fault_in, code_line, code_lines, coded_text};
+ghost use Rattle.referred.specs.Coded.{FormsAt, fault_in, code_line, coded_text};
 
 use crate::Fault;
-use refusals::{Refusal, Written};
 use sheet::line::name_end;
-use writing::{put, put_decimal};
+use writing::{Printed, Writer};
 
 // What stands in a report's line before the name.
-fn put_before(out: &mut [u8], at: usize, fault: Fault) -> usize
-    ensures { Wrote out.old out.new at result (before fault) }
+fn before(fault: Fault) -> &'static [u8]
+    ensures { result.now ≡ before fault }
 {
     match fault {
-        Fault::Sound => put(out, at, b""),
-        Fault::Missing => put(out, at, b"(l "),
-        Fault::NotVerb => put(out, at, b"(l "),
-        Fault::Unused => put(out, at, b"(k "),
+        Fault::Sound => b"",
+        Fault::Missing | Fault::NotVerb => b"(l ",
+        Fault::Unused => b"(k ",
     }
 }
 
 // What stands behind it.
-fn put_behind(out: &mut [u8], at: usize, fault: Fault) -> usize
-    ensures { Wrote out.old out.new at result (behind fault) }
+fn behind(fault: Fault) -> &'static [u8]
+    ensures { result.now ≡ behind fault }
 {
     match fault {
-        Fault::Sound => put(out, at, b""),
-        Fault::Missing => put(out, at, b" missing)\n"),
-        Fault::NotVerb => put(out, at, b" notverb)\n"),
-        Fault::Unused => put(out, at, b" unused)\n"),
+        Fault::Sound => b"",
+        Fault::Missing => b" missing)\n",
+        Fault::NotVerb => b" notverb)\n",
+        Fault::Unused => b" unused)\n",
     }
 }
 
 // The fault that a code says.
+#[tactic(auto, unfolding(crate::specs::Coded::fault_in))]
 fn fault_in(code: u32) -> Fault
     ensures { result ≡ fault_in code }
 {
-    let number = code % 256;
-    if number == 1 {
-        return Fault::Missing;
+    match code % 256 {
+        1 => Fault::Missing,
+        2 => Fault::NotVerb,
+        3 => Fault::Unused,
+        _ => Fault::Sound,
     }
-    if number == 2 {
-        return Fault::NotVerb;
-    }
-    if number == 3 {
-        return Fault::Unused;
-    }
-    Fault::Sound
 }
 
 // Puts the line of a code: what it says is wrong with the line that begins where it says. A form stands there.
-fn put_line(out: &mut [u8], at: usize, sheet: &[u8], code: u32) -> usize
+fn put_line(w: &mut Writer, sheet: &[u8], code: u32)
     requires { is_form (drop (code / 256) sheet.now) ≡ true }
-    ensures { Wrote out.old out.new at result (code_line sheet.now code) }
+    ensures { w.new ≡ with_text w.old (code_line sheet.now code) }
 {
     let fault = fault_in(code);
-    let line = (code / 256) as usize;
-    let end = name_end(sheet, line);
-    let from = line + 3;
-    let a = put_before(out, at, fault);
-    let b = put(out, a, &sheet[from..end]);
-    put_behind(out, b, fault)
+    let at = (code / 256) as usize;
+    let end = name_end(sheet, at);
+    let name = &sheet[at + 3..end];
+    w.put(before(fault));
+    w.put(name);
+    w.put(behind(fault));
 }
 
-// Puts the lines of codes.
-fn put_lines(out: &mut [u8], at: usize, sheet: &[u8], codes: &[u32]) -> usize
-    requires { FormsAt sheet.now codes.now }
-    ensures { Wrote out.old out.new at result (code_lines sheet.now codes.now) }
-{
-    let mut next = at;
-    let mut i: usize = 0;
-    while i < codes.len() {
-        next = put_line(out, next, sheet, codes[i]);
-        i += 1;
+// The report of a sheet whose findings are these codes.
+#[derive(Drop)]
+pub(crate) struct Report<'s> {
+    pub sheet: &'s [u8],
+    pub codes: &'s [u32],
+    ghost forms: { FormsAt sheet.now codes.now },
+}
+
+// How many there are, and a line for each.
+impl Printed for Report<'_> {
+    ghost text = { λ r. coded_text r.sheet.now r.codes.now };
+
+    #[tactic(auto, using(std::proofs::lemmas::Grind::common_steps, crate::proofs::Found::lines_turn, crate::proofs::Found::lines_end), unfolding(crate::specs::Coded::coded_text))]
+    fn put(&self, w: &mut Writer) {
+        w.put(b"(check ");
+        w.put_decimal(self.codes.len());
+        w.put(b")\n");
+        for &code in self.codes {
+            put_line(w, self.sheet, code);
+        }
     }
-    next
-}
-
-// Puts the line with their number before them.
-fn put_report(out: &mut [u8], sheet: &[u8], codes: &[u32]) -> usize
-    requires { FormsAt sheet.now codes.now }
-    ensures { Wrote out.old out.new 0 result (coded_text sheet.now codes.now) }
-{
-    let a = put(out, 0, b"(check ");
-    let b = put_decimal(out, a, codes.len());
-    let c = put(out, b, b")\n");
-    put_lines(out, c, sheet, codes)
-}
-
-// Writes these lines at the front of `out`. Too short a buffer is left as it was.
-pub(crate) fn write_report(sheet: &[u8], codes: &[u32], out: &mut [u8]) -> Written
-    requires { FormsAt sheet.now codes.now }
-    ensures { Answer (coded_text sheet.now codes.now) out.old out.new result }
-{
-    let mut none = [0u8; 0];
-    let size = put_report(&mut none, sheet, codes);
-    if out.len() < size {
-        return Written::Refused(Refusal::OutputTooShort);
-    }
-    put_report(out, sheet, codes);
-    Written::Wrote(size)
 }

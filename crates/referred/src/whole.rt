@@ -4,22 +4,14 @@ ghost use Rattle.writing.specs.Placed.{Whole};
 ghost use Rattle.referred.specs.Answers.{printed};
 
 use crate::entry::write_references;
-use refusals::Written;
-use writing::write_refused;
+use writing::put_front;
 
 // Writes it at the front of a buffer of 65,549 bytes, which is always long enough, and gives how long it is.
 pub fn answer_of(sheet: &[u8], out: &mut [u8; 65549]) -> usize
     ensures { Whole (printed sheet.now) out.old out.new result }
 {
-    let written = write_references(sheet, out);
-    match written {
-        Written::Wrote(size) => size,
-        Written::Refused(refusal) => {
-            let line = write_refused(refusal, out);
-            match line {
-                Written::Wrote(size) => size,
-                Written::Refused(_) => 0,
-            }
-        }
+    match write_references(sheet, out) {
+        Ok(size) => size,
+        Err(refusal) => put_front(&refusal, out),
     }
 }

@@ -1,4 +1,5 @@
 -- Laws of what an entry that is lent an output hands back and leaves, for elements of any type. Assumes nothing.
+use Rattle.std.specs.Prelude.{Err, Ok, Result}
 use Prim.Native.Nat.{ℕ, suc, ◌-◌, ◌≤◌, ◌<◌}
 use native.Mathlib.Omega.{arith}
 use mathlib.Core.Path.{◌≡◌, refl, sym, ap, ◌∙◌}
@@ -11,15 +12,13 @@ use Rattle.runs.specs.Runs.{pick}
 use Rattle.refusals.specs.Refusals.{number, places, written_numbers, room_for, output_by, cause_if, lowest_numbers_of}
 use Rattle.refusals.specs.declared.Refusal.{Refusal}
 use Rattle.refusals.specs.declared.Refusal.TheVariants.{WordTooLong, WordNotUtf8, WordForbidden, SheetTooLong, SheetNoForm, SheetNotAbove, TooManyReadings, OutputTooShort, TextTooLong, TextNotUtf8, ListTooShort, NoSingleForm, NothingToWithdraw, NoRoom}
-use Rattle.refusals.specs.declared.Written.{Written}
-use Rattle.refusals.specs.declared.Written.TheVariants.{Wrote, Refused}
 
 -- what is handed back by the room that there is
-pub is_written : (size room n : ℕ) → n ≡ size → n ≤ room → Wrote n ≡ room_for size room
-is_written size room n e h = let z : room_for n room ≡ Wrote n = rw (le-leb _ _ h) in sym z ∙ ap (λ (k : ℕ). room_for k room) e
+pub is_written : (size room n : ℕ) → n ≡ size → n ≤ room → Ok n ≡ room_for size room
+is_written size room n e h = let z : room_for n room ≡ Ok n = rw (le-leb _ _ h) in sym z ∙ ap (λ (k : ℕ). room_for k room) e
 
-pub is_too_short : (size room n : ℕ) → n ≡ size → room < n → Refused OutputTooShort ≡ room_for size room
-is_too_short size room n e h = let z : room_for n room ≡ Refused OutputTooShort = rw (lt-leb _ _ h) in sym z ∙ ap (λ (k : ℕ). room_for k room) e
+pub is_too_short : (size room n : ℕ) → n ≡ size → room < n → Err OutputTooShort ≡ room_for size room
+is_too_short size room n e h = let z : room_for n room ≡ Err OutputTooShort = rw (lt-leb _ _ h) in sym z ∙ ap (λ (k : ℕ). room_for k room) e
 
 -- 8 is the number of an output that is shorter
 pub room_lowest : (size room : ℕ) → written_numbers (room_for size room) ≡ lowest_numbers_of (cause_if (ltb room size) OutputTooShort)
@@ -32,7 +31,7 @@ room_lowest size room = by (leb size room) refl
 pub eight_short : (size room : ℕ) → written_numbers (room_for size room) ≡ 8 ∷ [] → room < size
 eight_short size room = by (leb size room) refl
   where
-    by : (b : Bool) → leb size room ≡ b → written_numbers (pick b (Wrote size) (Refused OutputTooShort)) ≡ 8 ∷ [] → room < size
+    by : (b : Bool) → leb size room ≡ b → written_numbers (pick b (Ok size) (Err OutputTooShort)) ≡ 8 ∷ [] → room < size
     by true t e = let z : ◌≡◌ {A = ℕ} 0 1 = ap (length {A = ℕ}) e in absurd (omega arith)
     by false t e = leb-false size room t
 
@@ -40,10 +39,10 @@ pub short_eight : (size room : ℕ) → room < size → written_numbers (room_fo
 short_eight size room h = rw (lt-leb size room h)
 
 -- a refusal has a number, so no number means that all was written
-pub none_wrote : (size room : ℕ) → written_numbers (room_for size room) ≡ [] → room_for size room ≡ Wrote size
+pub none_wrote : (size room : ℕ) → written_numbers (room_for size room) ≡ [] → room_for size room ≡ Ok size
 none_wrote size room = by (leb size room)
   where
-    by : (b : Bool) → written_numbers (pick b (Wrote size) (Refused OutputTooShort)) ≡ [] → pick b (Wrote size) (Refused OutputTooShort) ≡ Wrote size
+    by : (b : Bool) → written_numbers (pick b (Ok size) (Err OutputTooShort)) ≡ [] → pick b (Ok size) (Err OutputTooShort) ≡ Ok size
     by true e = refl
     by false e = let z : ◌≡◌ {A = ℕ} 1 0 = ap (length {A = ℕ}) e in absurd (omega arith)
 
@@ -88,9 +87,9 @@ one_place NoRoom = tt
 
 module _ {A : Type 0} where
   -- with any number, the output is left as it was
-  pub left_by_lem : (f : Written) (answer old : List A) (n : ℕ) (ns : List ℕ) → written_numbers f ≡ n ∷ ns → output_by f answer old ≡ old
-  left_by_lem (Wrote k) answer old n ns e = let z : ◌≡◌ {A = ℕ} 0 (suc (length ns)) = ap (length {A = ℕ}) e in absurd (omega arith)
-  left_by_lem (Refused r) answer old n ns e = refl
+  pub left_by_lem : (f : Result ℕ Refusal) (answer old : List A) (n : ℕ) (ns : List ℕ) → written_numbers f ≡ n ∷ ns → output_by f answer old ≡ old
+  left_by_lem (Ok k) answer old n ns e = let z : ◌≡◌ {A = ℕ} 0 (suc (length ns)) = ap (length {A = ℕ}) e in absurd (omega arith)
+  left_by_lem (Err r) answer old n ns e = refl
 
   -- an answer written whole over the front of an output that is no shorter leaves it as long as it was
   pub over-length : (xs ys : List A) → length xs ≤ length ys → length (xs ++ drop (length xs) ys) ≡ length ys
@@ -102,6 +101,6 @@ module _ {A : Type 0} where
   pub output_length : (answer old : List A) → length (output_by (room_for (length answer) (length old)) answer old) ≡ length old
   output_length answer old = by (leb (length answer) (length old)) refl
     where
-      by : (b : Bool) → leb (length answer) (length old) ≡ b → length (output_by (pick b (Wrote (length answer)) (Refused OutputTooShort)) answer old) ≡ length old
+      by : (b : Bool) → leb (length answer) (length old) ≡ b → length (output_by (pick b (Ok (length answer)) (Err OutputTooShort)) answer old) ≡ length old
       by true t = over-length answer old (leb-true (length answer) (length old) t)
       by false t = refl

@@ -1,13 +1,9 @@
 -- The number of each refusal (document 01, "What an entry hands back"), the place that comes with it, and which of several is the lowest.
 -- Assumes nothing.
-use Rattle.std.specs.Prelude.{ℕ, ◌<◌, Bool, true, false, List, [], ◌∷◌, ◌++◌, length, drop, leb}
+use Rattle.std.specs.Prelude.{ℕ, ◌<◌, Bool, true, false, List, [], ◌∷◌, ◌++◌, length, drop, leb, Err, Ok, Result, Option, Some, None, option_to_list}
 use Rattle.runs.specs.Runs.{pick}
 use Rattle.refusals.specs.declared.Refusal.{Refusal}
 use Rattle.refusals.specs.declared.Refusal.TheVariants.{WordTooLong, WordNotUtf8, WordForbidden, SheetTooLong, SheetNoForm, SheetNotAbove, TooManyReadings, OutputTooShort, TextTooLong, TextNotUtf8, ListTooShort, NoSingleForm, NothingToWithdraw, NoRoom}
-use Rattle.refusals.specs.declared.Written.{Written}
-use Rattle.refusals.specs.declared.Written.TheVariants.{Wrote, Refused}
-use Rattle.refusals.specs.declared.Numbers.{Numbers}
-use Rattle.refusals.specs.declared.Numbers.TheVariants.{Number, Placed}
 
 -- document 01's number of each cause, and then document 02's
 abbrev pub number : Refusal → ℕ
@@ -27,44 +23,42 @@ number NothingToWithdraw = 12
 number NoRoom = 13
 
 -- the place that comes with it: for 5 and 6 the faulty line's first byte
+abbrev pub place_of : Refusal → Option ℕ
+place_of WordTooLong = None
+place_of WordNotUtf8 = None
+place_of WordForbidden = None
+place_of SheetTooLong = None
+place_of (SheetNoForm at) = Some at
+place_of (SheetNotAbove at) = Some at
+place_of TooManyReadings = None
+place_of OutputTooShort = None
+place_of TextTooLong = None
+place_of TextNotUtf8 = None
+place_of ListTooShort = None
+place_of NoSingleForm = None
+place_of NothingToWithdraw = None
+place_of NoRoom = None
+
 abbrev pub places : Refusal → List ℕ
-places WordTooLong = []
-places WordNotUtf8 = []
-places WordForbidden = []
-places SheetTooLong = []
-places (SheetNoForm at) = at ∷ []
-places (SheetNotAbove at) = at ∷ []
-places TooManyReadings = []
-places OutputTooShort = []
-places TextTooLong = []
-places TextNotUtf8 = []
-places ListTooShort = []
-places NoSingleForm = []
-places NothingToWithdraw = []
-places NoRoom = []
+places r = option_to_list (place_of r)
 
 -- the number, and then the place
 abbrev pub numbers_of : Refusal → List ℕ
 numbers_of r = number r ∷ places r
 
--- the same as the code hands it on
-abbrev pub numbers_told : Numbers → List ℕ
-numbers_told (Number n) = n ∷ []
-numbers_told (Placed n at) = n ∷ at ∷ []
-
 -- the number and place that come with what was written: none where all was
-abbrev pub written_numbers : Written → List ℕ
-written_numbers (Wrote n) = []
-written_numbers (Refused r) = numbers_of r
+abbrev pub written_numbers : Result ℕ Refusal → List ℕ
+written_numbers (Ok n) = []
+written_numbers (Err r) = numbers_of r
 
 -- what is handed back for an answer of so much and a lent output with so much room
-abbrev pub room_for : ℕ → ℕ → Written
-room_for size room = pick (leb size room) (Wrote size) (Refused OutputTooShort)
+abbrev pub room_for : ℕ → ℕ → Result ℕ Refusal
+room_for size room = pick (leb size room) (Ok size) (Err OutputTooShort)
 
 -- what a lent output holds then: the answer followed by its old contents, or its old contents alone
-abbrev pub output_by : {A : Type 0} → Written → List A → List A → List A
-output_by (Wrote n) answer old = answer ++ drop (length answer) old
-output_by (Refused r) answer old = old
+abbrev pub output_by : {A : Type 0} → Result ℕ Refusal → List A → List A → List A
+output_by (Ok n) answer old = answer ++ drop (length answer) old
+output_by (Err r) answer old = old
 
 -- every place of a refusal lies before byte `top`
 abbrev pub Before : ℕ → List ℕ → Type 0

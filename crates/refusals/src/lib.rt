@@ -2,11 +2,11 @@
 #![tactic(auto)]
 
 ghost use Rattle.std.specs.Prelude.{◌≡◌};
-ghost use Rattle.refusals.specs.Refusals.{numbers_of, numbers_told};
+ghost use Rattle.refusals.specs.Refusals.{number, place_of};
 
 // The causes of document 01's table, in its order; for a faulty line, with its first byte. Then those of document 02: of a text and a list
-// of tokens (a), of a line that is put or withdrawn (c). `numbers_of` gives the number of each.
-#[derive(Clone, Copy)]
+// of tokens (a), of a line that is put or withdrawn (c). `number` gives the number of each, `place` the place.
+#[derive(Clone, Copy, Debug, PartialEq, Eq)]
 pub enum Refusal {
     WordTooLong,
     WordNotUtf8,
@@ -24,38 +24,37 @@ pub enum Refusal {
     NoRoom,
 }
 
-// What an entry that is lent an output hands back: how much was written, or why nothing was.
-#[derive(Clone, Copy)]
-pub enum Written {
-    Wrote(usize),
-    Refused(Refusal),
-}
+impl Refusal {
+    // Its number.
+    pub fn number(self) -> usize
+        ensures { result ≡ number self }
+    {
+        match self {
+            Refusal::WordTooLong => 1,
+            Refusal::WordNotUtf8 => 2,
+            Refusal::WordForbidden => 3,
+            Refusal::SheetTooLong => 4,
+            Refusal::SheetNoForm(_) => 5,
+            Refusal::SheetNotAbove(_) => 6,
+            Refusal::TooManyReadings => 7,
+            Refusal::OutputTooShort => 8,
+            Refusal::TextTooLong => 9,
+            Refusal::TextNotUtf8 => 2,
+            Refusal::ListTooShort => 10,
+            Refusal::NoSingleForm => 11,
+            Refusal::NothingToWithdraw => 12,
+            Refusal::NoRoom => 13,
+        }
+    }
 
-// The number of a refusal, alone or with a place.
-#[derive(Clone, Copy)]
-pub enum Numbers {
-    Number(usize),
-    Placed(usize, usize),
-}
-
-// The number of a refusal and its place: what is printed of it and what the static library's codes are made of.
-pub fn numbers_of(refusal: Refusal) -> Numbers
-    ensures { numbers_told result ≡ numbers_of refusal }
-{
-    match refusal {
-        Refusal::WordTooLong => Numbers::Number(1),
-        Refusal::WordNotUtf8 => Numbers::Number(2),
-        Refusal::WordForbidden => Numbers::Number(3),
-        Refusal::SheetTooLong => Numbers::Number(4),
-        Refusal::SheetNoForm(at) => Numbers::Placed(5, at),
-        Refusal::SheetNotAbove(at) => Numbers::Placed(6, at),
-        Refusal::TooManyReadings => Numbers::Number(7),
-        Refusal::OutputTooShort => Numbers::Number(8),
-        Refusal::TextTooLong => Numbers::Number(9),
-        Refusal::TextNotUtf8 => Numbers::Number(2),
-        Refusal::ListTooShort => Numbers::Number(10),
-        Refusal::NoSingleForm => Numbers::Number(11),
-        Refusal::NothingToWithdraw => Numbers::Number(12),
-        Refusal::NoRoom => Numbers::Number(13),
+    // The place that comes with it, if one does: the first byte of the faulty line.
+    pub fn place(self) -> Option<usize>
+        ensures { result ≡ place_of self }
+    {
+        match self {
+            Refusal::SheetNoForm(at) => Some(at),
+            Refusal::SheetNotAbove(at) => Some(at),
+            _ => None,
+        }
     }
 }

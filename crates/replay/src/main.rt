@@ -3,10 +3,10 @@
 #![tactic(auto)]
 
 use blocks::case_at;
-use sheet::check::SheetCheck;
+use sheet::check::SheetFault;
 use std::io;
 use std::io::{BufWriter, Read, Write};
-use text::word::WordCheck;
+use text::word::WordFault;
 
 // Writes a number and where it applies a place.
 fn say<W: Write>(out: &mut W, number: u64, at: u64) -> io::Result<()> {
@@ -21,10 +21,10 @@ fn say<W: Write>(out: &mut W, number: u64, at: u64) -> io::Result<()> {
 fn say_sheet<W: Write>(out: &mut W, sheet: &[u8]) -> io::Result<()> {
     let answer = sheet::check::check_sheet(sheet);
     match answer {
-        SheetCheck::Accepted => say(out, 0, 0),
-        SheetCheck::TooLong => say(out, 4, 0),
-        SheetCheck::NoForm(at) => say(out, 5, at as u64),
-        SheetCheck::NotAbove(at) => say(out, 6, at as u64),
+        Ok(()) => say(out, 0, 0),
+        Err(SheetFault::TooLong) => say(out, 4, 0),
+        Err(SheetFault::NoForm(at)) => say(out, 5, at as u64),
+        Err(SheetFault::NotAbove(at)) => say(out, 6, at as u64),
     }
 }
 
@@ -32,10 +32,10 @@ fn say_sheet<W: Write>(out: &mut W, sheet: &[u8]) -> io::Result<()> {
 fn say_both<W: Write>(out: &mut W, word: &[u8], sheet: &[u8]) -> io::Result<()> {
     let answer = text::word::check_word(word);
     match answer {
-        WordCheck::Accepted => say_sheet(out, sheet),
-        WordCheck::TooLong => say(out, 1, 0),
-        WordCheck::NotUtf8 => say(out, 2, 0),
-        WordCheck::Forbidden => say(out, 3, 0),
+        Ok(()) => say_sheet(out, sheet),
+        Err(WordFault::TooLong) => say(out, 1, 0),
+        Err(WordFault::NotUtf8) => say(out, 2, 0),
+        Err(WordFault::Forbidden) => say(out, 3, 0),
     }
 }
 

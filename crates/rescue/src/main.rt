@@ -13,7 +13,7 @@ ghost use Rattle.rescue.specs.Printed.{kept_printed, report_told};
 
 use intake::read_at_most;
 use rescued::part::{kept_of, report_part};
-use sheet::walk::{Before, Walk};
+use sheet::walk::Walk;
 use std::alloc::Global;
 use std::io;
 use std::io::{Read, Write};
@@ -37,10 +37,7 @@ fn report<W: Write>(told: &mut W, sheet: &[u8]) -> io::Result<()>
     requires { length sheet.now ≤ sheet_limit }
     ensures { OnOk result (Appends (W.contents told.old) (W.contents told.new) (report_of sheet.now)) }
 {
-    let mut walk = Walk {
-        at: 0,
-        last: Before::Nothing,
-    };
+    let mut walk = Walk { at: 0, last: None };
     while walk.at < sheet.len() {
         walk = report_some(told, sheet, walk)?;
     }

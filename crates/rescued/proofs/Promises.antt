@@ -1,5 +1,6 @@
 -- Request (m) as theorems: the stretches are the input exactly; the kept sheet is always accepted; a good sheet comes out unchanged and has
 -- no report line, and no other has none; which number is given; how much room is enough. Assumes nothing.
+use Rattle.std.specs.Prelude.{Err, Ok, Option}
 use Prim.Native.Nat.{ℕ, ◌+◌, ◌-◌, ◌*◌, ◌<◌, ◌≤◌}
 use native.Mathlib.Omega.{arith}
 use mathlib.Core.Path.{◌≡◌, refl, sym, ap, subst, ◌∙◌}
@@ -19,8 +20,6 @@ use Rattle.sheet.specs.Forms.{Entry, is_form, written, key}
 use Rattle.sheet.specs.Lines.{starts_of, line_at, sheet_text, sheet_check}
 use Rattle.sheet.specs.Steps.{value_end}
 use Rattle.sheet.specs.Walks.{key_before}
-use Rattle.sheet.specs.declared.check.SheetCheck.TheVariants.{Accepted}
-use Rattle.sheet.specs.declared.walk.Before.{Before}
 use Rattle.sheet.specs.declared.walk.Walk.{Walk}
 use Rattle.sheet.proofs.Accepted.{GoesUp, accepted_up}
 use Rattle.sheet.proofs.Forms.{line-bytes, line_long, written-length}
@@ -29,7 +28,6 @@ use Rattle.sheet.proofs.Texts.{Rises, form_good, text-accepted}
 use Rattle.rescued.specs.declared.Fate.{Fate}
 use Rattle.rescued.specs.declared.Fate.TheVariants.{Kept, NoForm, NoOrder}
 use Rattle.rescued.specs.declared.walk.Reach.{Reach}
-use Rattle.rescued.specs.declared.entry.Rescued.TheVariants as rescued
 use Rattle.rescued.specs.Stretches.{Stretch, text_of, fate_at, stretches_from, stretches_of, kept_text, cut_head, cut_line, kept_over, report_over, kept_of, report_of, laid, is_dropped, dropped, kept, cut_lines, Contiguous}
 use Rattle.rescued.specs.Answers.{rescued_of, rescued_numbers}
 use Rattle.rescued.specs.Places.{ahead, Stepped}
@@ -103,8 +101,8 @@ module _ (s : List ℕ) where
             (form_good (drop w.at s) m.0, m.1, subst (λ (x : List ℕ). Rises x (entries (ahead s next))) k i.0),
             ap (λ (x : List ℕ). written (line_at s w.at) ++ x) i.1 ∙ ap (λ (x : List ℕ). x ++ kept_over s (ahead s next)) (sym e),
           )
-      on w at next NoForm m i = (subst (λ (x : Before). Rises (key_before s x) (entries (ahead s next))) m.1 i.0, i.1)
-      on w at next NoOrder m i = (subst (λ (x : Before). Rises (key_before s x) (entries (ahead s next))) m.2 i.0, i.1)
+      on w at next NoForm m i = (subst (λ (x : Option ℕ). Rises (key_before s x) (entries (ahead s next))) m.1 i.0, i.1)
+      on w at next NoOrder m i = (subst (λ (x : Option ℕ). Rises (key_before s x) (entries (ahead s next))) m.2 i.0, i.1)
 
       turns : (w : Walk) → w.at < length s → (r : Reach) → Stepped s w r → Meant s w r r.fate → Risen r.next → Risen w
       turns w l r k m i =
@@ -130,9 +128,9 @@ module _ (s : List ℕ) where
   kept-size = omega (arith, over_less (stretches_of s), ap length laid_exactly)
 
   -- the outcome is always accepted
-  pub kept-accepted : length s ≤ sheet_limit → sheet_check (kept_of s) ≡ Accepted
+  pub kept-accepted : length s ≤ sheet_limit → sheet_check (kept_of s) ≡ Ok tt
   kept-accepted h =
-      subst (λ (x : List ℕ). sheet_check x ≡ Accepted) risen.1 (text-accepted (entries (stretches_of s)) risen.0 (omega (arith, ap length risen.1, kept-size)))
+      subst (λ (x : List ℕ). sheet_check x ≡ Ok tt) risen.1 (text-accepted (entries (stretches_of s)) risen.0 (omega (arith, ap length risen.1, kept-size)))
 
   -- a good sheet comes out unchanged with no report line
   all_kept : (last places : List ℕ) → GoesUp s last places → (kept_over s (stretches_from s last places) ≡ laid s (stretches_from s last places)) × (report_over (stretches_from s last places) ≡ [])
@@ -142,7 +140,7 @@ module _ (s : List ℕ) where
       let i = all_kept (key (line_at s at)) places g.2 in
       (rw (g.0, g.1, i.0), rw (g.0, g.1, i.1))
 
-  pub good_unchanged : sheet_check s ≡ Accepted → (kept_of s ≡ s) × (report_of s ≡ [])
+  pub good_unchanged : sheet_check s ≡ Ok tt → (kept_of s ≡ s) × (report_of s ≡ [])
   good_unchanged h = let a = all_kept [] (starts_of s) (accepted_up s h) in (a.0 ∙ laid_exactly, a.1)
 
   -- and no other sheet has no report line
@@ -159,8 +157,8 @@ module _ (s : List ℕ) where
       let c = cut-some x.start (x.end - x.start) x.fate (report_over xs) e in
       ap (λ (f : Fate). kept_text f (text_of s x) ++ kept_over s xs) c.0 ∙ ap (λ (y : List ℕ). text_of s x ++ y) (none-cut xs c.1)
 
-  pub none_exactly : length s ≤ sheet_limit → (report_of s ≡ []) ↔ (sheet_check s ≡ Accepted)
-  none_exactly h = (λ e. subst (λ (x : List ℕ). sheet_check x ≡ Accepted) (none-cut (stretches_of s) e ∙ laid_exactly) (kept-accepted h), λ a. (good_unchanged a).1)
+  pub none_exactly : length s ≤ sheet_limit → (report_of s ≡ []) ↔ (sheet_check s ≡ Ok tt)
+  none_exactly h = (λ e. subst (λ (x : List ℕ). sheet_check x ≡ Ok tt) (none-cut (stretches_of s) e ∙ laid_exactly) (kept-accepted h), λ a. (good_unchanged a).1)
 
   -- 19 times as many bytes as the sheet has are always enough for the report
   pub report_size : length s ≤ sheet_limit → length (report_of s) ≤ 19 * length s
@@ -186,7 +184,7 @@ module _ (s : List ℕ) where
           omega arith
 
   pub enough : length s ≤ sheet_limit → (room space : ℕ) → length s ≤ room → 19 * length s ≤ space
-      → rescued_of s room space ≡ rescued.Wrote (record { kept = length (kept_of s); report = length (report_of s) })
+      → rescued_of s room space ≡ Ok (record { kept = length (kept_of s); report = length (report_of s) })
   unfolding rescued_of
   enough h room space k l =
       rw (le-ltb _ _ h, le-leb (length (kept_of s)) room (omega (arith, kept-size)), le-leb (length (report_of s)) space (omega (arith, report_size h)))
@@ -203,7 +201,7 @@ module _ (s : List ℕ) where
       turned a b false e = lt-ltb b a (leb-false a b e)
 
       by : (a b c : Bool) → leb (length (kept_of s)) room ≡ b → leb (length (report_of s)) space ≡ c
-          → rescued_numbers (pick a (rescued.Refused SheetTooLong) (pick (b && c) (rescued.Wrote (record { kept = length (kept_of s); report = length (report_of s) })) (rescued.Refused OutputTooShort)))
+          → rescued_numbers (pick a (Err SheetTooLong) (pick (b && c) (Ok (record { kept = length (kept_of s); report = length (report_of s) })) (Err OutputTooShort)))
           ≡ lowest_numbers_of (cause_if a SheetTooLong ++ cause_if (ltb room (length (kept_of s)) || ltb space (length (report_of s))) OutputTooShort)
       by true true true p q = rw (turned _ _ true p, turned _ _ true q)
       by true true false p q = rw (turned _ _ true p, turned _ _ false q)

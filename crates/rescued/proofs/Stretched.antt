@@ -1,5 +1,6 @@
 -- One stretch of a torn sheet after the other: where it ends, what becomes of it, and what is to come. The proofs of walk.rt and entry.rt
 -- cite these. Assumes nothing.
+use Rattle.std.specs.Prelude.{Some}
 use Prim.Native.Nat.{ℕ, suc, ◌+◌, ◌-◌, ◌*◌, ◌<◌, ◌≤◌, min}
 use native.Mathlib.Omega.{arith}
 use mathlib.Core.Path.{◌≡◌, refl, sym, ap, subst, ◌∙◌}
@@ -15,7 +16,6 @@ use Rattle.sheet.specs.Forms.{is_form, key}
 use Rattle.sheet.specs.Lines.{starts_from, line_at}
 use Rattle.sheet.specs.Steps.{name_end, value_end}
 use Rattle.sheet.specs.Walks.{key_before, Standing, starts_ahead, reached}
-use Rattle.sheet.specs.declared.walk.Before.TheVariants.{At}
 use Rattle.sheet.specs.declared.walk.Walk.{Walk}
 use Rattle.sheet.specs.declared.walk.Reached.{Reached}
 use Rattle.sheet.specs.declared.walk.Reached.TheVariants as step
@@ -91,7 +91,7 @@ module _ (s : List ℕ) (w : Walk) where
   Fated step.NoForm = fate_at s (key_before s w.last) w.at ≡ NoForm
   Fated step.NotAbove = fate_at s (key_before s w.last) w.at ≡ NoOrder
   Fated (step.Form l e f next) =
-      (fate_at s (key_before s w.last) w.at ≡ Kept) × (is_form (drop w.at s) ≡ true) × (next ≡ record { at = value_end s w.at + 3; last = At w.at })
+      (fate_at s (key_before s w.last) w.at ≡ Kept) × (is_form (drop w.at s) ≡ true) × (next ≡ record { at = value_end s w.at + 3; last = Some w.at })
 
   pub fated : (r : Reached) → r ≡ reached s w → Fated r
   unfolding reached fate_at
@@ -100,7 +100,7 @@ module _ (s : List ℕ) (w : Walk) where
       (by (leb (length s) w.at) (is_form (drop w.at s)) (is_less (cmp (key_before s w.last) (key (line_at s w.at)))) refl refl refl)
     where
       by : (b c d : Bool) → leb (length s) w.at ≡ b → is_form (drop w.at s) ≡ c → is_less (cmp (key_before s w.last) (key (line_at s w.at))) ≡ d
-          → Fated (pick b step.End (pick c (pick d (step.Form (line_at s w.at).letter (name_end s w.at) (value_end s w.at) (record { at = value_end s w.at + 3; last = At w.at })) step.NotAbove) step.NoForm))
+          → Fated (pick b step.End (pick c (pick d (step.Form (line_at s w.at).letter (name_end s w.at) (value_end s w.at) (record { at = value_end s w.at + 3; last = Some w.at })) step.NotAbove) step.NoForm))
       by true c d p q r = leb-true _ _ p
       by false true true p q r = (rw (q, r), q, refl)
       by false true false p q r = rw (q, r)
@@ -136,7 +136,7 @@ module _ (s : List ℕ) (w : Walk) where
         let i = f.1 in
         let m = line_long s w.at i in
         subst (λ (x : Walk). Stepped s w (record { fate = Kept; next = x })) (sym f.2)
-        (record { further = omega arith; inside = line-fits s w.at i; standing = i; passed = passed Kept (record { at = value_end s w.at + 3; last = At w.at }) (next_line s w.at i) (line-fits s w.at i) f.0 refl })
+        (record { further = omega arith; inside = line-fits s w.at i; standing = i; passed = passed Kept (record { at = value_end s w.at + 3; last = Some w.at }) (next_line s w.at i) (line-fits s w.at i) f.0 refl })
 
     pub at_end : (r : Reached) → r ≡ reached s w → r ≡ step.End → ⊥
     at_end r e q = let f : length s ≤ w.at = fated step.End (sym q ∙ e) in omega arith
@@ -173,11 +173,11 @@ module _ (s : List ℕ) (at found : ℕ) (h : at < length s) (f : found ≡ at +
   e : found ≡ at + index_of 0x0A (drop at s)
   e = f ∙ ap (λ (x : List ℕ). at + index_of 0x0A x) (whole_slice s at)
 
-  pub end-behind : found < length s → found + 1 ≡ line_end s at
-  end-behind k = let q = e in omega arith
+  pub end_behind : found < length s → found + 1 ≡ line_end s at
+  end_behind k = let q = e in omega arith
 
-  pub end-last : length s ≤ found → found ≡ line_end s at
-  end-last k = let q = e in omega arith
+  pub end_last : length s ≤ found → found ≡ line_end s at
+  end_last k = let q = e in omega arith
 
 -- how long a line of the report is
 pub cut-size : (start n : ℕ) → start < 100000 → n < 100000 → (f : Fate) → length (cut_line start n f) ≤ 24

@@ -1,4 +1,5 @@
 -- What holds of the stretches to come, shown stretch by stretch. Every theorem about all stretches rests on `walked`. Assumes nothing.
+use Rattle.std.specs.Prelude.{Some}
 use Prim.Native.Nat.{ℕ, zero, suc, ◌+◌, ◌<◌, ◌≤◌}
 use native.Mathlib.Omega.{arith}
 use mathlib.Core.Path.{◌≡◌, refl, sym, ap, subst, ◌∙◌}
@@ -8,13 +9,12 @@ use lib.ListN.{length, drop}
 use lib.Dec.{ltb}
 use borrow.Author.Tests.{ltb-true, ltb-false}
 use Rattle.runs.specs.Runs.{pick, cmp, is_less}
-use Rattle.runs.specs.declared.Order.{Order}
-use Rattle.runs.specs.declared.Order.TheVariants.{Less, Equal, Greater}
+use Rattle.std.specs.declared.cmp.Ordering.{Ordering}
+use Rattle.std.specs.declared.cmp.Ordering.TheVariants.{Less, Equal, Greater}
 use Rattle.sheet.specs.Forms.{is_form, key}
 use Rattle.sheet.specs.Lines.{line_at}
 use Rattle.sheet.specs.Steps.{value_end}
 use Rattle.sheet.specs.Walks.{key_before, Standing, reached}
-use Rattle.sheet.specs.declared.walk.Before.TheVariants.{At}
 use Rattle.sheet.specs.declared.walk.Walk.{Walk}
 use Rattle.sheet.specs.declared.walk.Reached.{Reached}
 use Rattle.sheet.specs.declared.walk.Reached.TheVariants as step
@@ -28,11 +28,11 @@ use Rattle.rescued.proofs.Stretched.{fated, at_no_form, at_not_above, at_form, a
 -- what becomes of a line, told by its form and the last kept one
 abbrev pub Meant : List ℕ → Walk → Reach → Fate → Type 0
 Meant s w r Kept =
-    (is_form (drop w.at s) ≡ true) × (cmp (key_before s w.last) (key (line_at s w.at)) ≡ Less) × (r.next ≡ record { at = value_end s w.at + 3; last = At w.at })
+    (is_form (drop w.at s) ≡ true) × (cmp (key_before s w.last) (key (line_at s w.at)) ≡ Less) × (r.next ≡ record { at = value_end s w.at + 3; last = Some w.at })
 Meant s w r NoForm = (is_form (drop w.at s) ≡ false) × (r.next.last ≡ w.last)
 Meant s w r NoOrder = (is_form (drop w.at s) ≡ true) × (cmp (key_before s w.last) (key (line_at s w.at)) ≡ Less → ⊥) × (r.next.last ≡ w.last)
 
-less_true : (o : Order) → is_less o ≡ true → o ≡ Less
+less_true : (o : Ordering) → is_less o ≡ true → o ≡ Less
 less_true Less e = refl
 less_true Equal e = cc
 less_true Greater e = cc

@@ -9,6 +9,7 @@ ghost use Rattle.rescued.specs.Parts.{Parted};
 use crate::entry::put_both;
 use crate::walk::{next_stretch, put_cut};
 use sheet::walk::Walk;
+use writing::Writer;
 
 // How much of the report was written, and where it goes on.
 #[derive(Clone, Copy)]
@@ -22,29 +23,22 @@ pub fn kept_of(sheet: &[u8], out: &mut [u8; 65536]) -> usize
     requires { length sheet.now ≤ sheet_limit }
     ensures { Whole (kept_of sheet.now) out.old out.new result }
 {
-    let mut none = [0u8; 0];
-    let sizes = put_both(sheet, out, &mut none);
-    sizes.kept
+    put_both(sheet, out, &mut []).kept
 }
 
 // Writes the report's lines from the walk's place on into 4,096 bytes, as many as there is room for, and at least one where there is a line.
 // A form stands at the last kept line. Free: where a part ends.
-pub fn report_part(sheet: &[u8], from: Walk, out: &mut [u8]) -> Part
-    requires { (length sheet.now ≤ sheet_limit) × (from.at ≤ length sheet.now) × Standing sheet.now from.last × (length out.old ≡ 4096) }
+pub fn report_part(sheet: &[u8], from: Walk, out: &mut [u8; 4096]) -> Part
+    requires { (length sheet.now ≤ sheet_limit) × (from.at ≤ length sheet.now) × Standing sheet.now from.last }
     ensures { Parted sheet.now from out.old out.new result }
 {
+    let mut w = Writer::new(out);
     let mut walk = from;
-    let mut n: usize = 0;
-    while walk.at < sheet.len() {
-        if 4072 < n {
-            return Part { walk, size: n };
-        }
+    while walk.at < sheet.len() && w.at() <= 4072 {
         let at = walk.at;
         let reached = next_stretch(sheet, walk);
-        let fate = reached.fate;
         walk = reached.next;
-        let end = walk.at;
-        n = put_cut(out, n, at, end - at, fate);
+        put_cut(&mut w, at, walk.at - at, reached.fate);
     }
-    Part { walk, size: n }
+    Part { walk, size: w.at() }
 }

@@ -1,14 +1,14 @@
 // The walk over the stretches of a torn sheet: each ends with its 0A, the last one perhaps without.
 ghost use Rattle.std.specs.Prelude.{◌≡◌, ◌-◌, ◌≤◌, ◌<◌, length};
 ghost use Rattle.sheet.specs.Walks.{Standing};
-ghost use Rattle.writing.specs.Placed.{Wrote};
+ghost use Rattle.writing.specs.Writers.{with_text};
 ghost use Rattle.rescued.specs.Stretches.{cut_line, kept_text};
 ghost use Rattle.rescued.specs.Places.{line_end, Stepped};
 
 use crate::Fate;
 use runs::find;
 use sheet::walk::{Reached, Walk};
-use writing::{put, put_decimal};
+use writing::Writer;
 
 // A stretch that was reached: what becomes of it, and the walk from behind it, which begins where it ends.
 #[derive(Clone, Copy)]
@@ -18,6 +18,7 @@ pub(crate) struct Reach {
 }
 
 // Where the stretch that begins at `at` ends: behind its 0A, or with the input.
+#[tactic(auto, using(crate::proofs::Stretched::end_behind, crate::proofs::Stretched::end_last))]
 fn line_end(s: &[u8], at: usize) -> usize
     requires { at < length s.now }
     ensures { result ≡ line_end s.now at }
@@ -30,6 +31,7 @@ fn line_end(s: &[u8], at: usize) -> usize
 }
 
 // The stretch at which the walk stands; there is one. A form stands at the last kept line.
+#[tactic(auto, using(crate::proofs::Stretched::at_end, crate::proofs::Stretched::at_no_form, crate::proofs::Stretched::at_not_above))]
 pub(crate) fn next_stretch(s: &[u8], walk: Walk) -> Reach
     requires { (walk.at < length s.now) × Standing s.now walk.last }
     ensures { Stepped s.now walk result }
@@ -68,36 +70,29 @@ pub(crate) fn next_stretch(s: &[u8], walk: Walk) -> Reach
     }
 }
 
-// Puts the report's line of a dropped stretch, nothing of a kept one.
-pub(crate) fn put_cut(out: &mut [u8], at: usize, start: usize, len: usize, fate: Fate) -> usize
-    ensures { Wrote out.old out.new at result (cut_line start len fate) }
+// Puts a kept stretch, nothing of a dropped one.
+pub(crate) fn put_kept(kept: &mut Writer, text: &[u8], fate: Fate)
+    ensures { kept.new ≡ with_text kept.old (kept_text fate text.now) }
 {
     match fate {
-        Fate::Kept => put(out, at, b""),
-        Fate::NoForm => {
-            let a = put(out, at, b"(cut ");
-            let b = put_decimal(out, a, start);
-            let c = put(out, b, b" ");
-            let d = put_decimal(out, c, len);
-            put(out, d, b" form)\n")
-        }
-        Fate::NoOrder => {
-            let e = put(out, at, b"(cut ");
-            let f = put_decimal(out, e, start);
-            let g = put(out, f, b" ");
-            let h = put_decimal(out, g, len);
-            put(out, h, b" order)\n")
-        }
+        Fate::Kept => kept.put(text),
+        Fate::NoForm | Fate::NoOrder => {}
     }
 }
 
-// Puts a kept stretch, nothing of a dropped one.
-pub(crate) fn put_kept(out: &mut [u8], at: usize, text: &[u8], fate: Fate) -> usize
-    ensures { Wrote out.old out.new at result (kept_text fate text.now) }
+// Puts the report's line of a dropped stretch, nothing of a kept one.
+#[tactic(auto, unfolding(crate::specs::Stretches::cut_line))]
+pub(crate) fn put_cut(report: &mut Writer, start: usize, len: usize, fate: Fate)
+    ensures { report.new ≡ with_text report.old (cut_line start len fate) }
 {
-    match fate {
-        Fate::Kept => put(out, at, text),
-        Fate::NoForm => put(out, at, b""),
-        Fate::NoOrder => put(out, at, b""),
-    }
+    let why: &[u8] = match fate {
+        Fate::Kept => return,
+        Fate::NoForm => b" form)\n",
+        Fate::NoOrder => b" order)\n",
+    };
+    report.put(b"(cut ");
+    report.put_decimal(start);
+    report.put(b" ");
+    report.put_decimal(len);
+    report.put(why);
 }

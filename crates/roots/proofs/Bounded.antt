@@ -1,5 +1,7 @@
 -- Never more than 16 candidates: the word, the decomposition, 4 with one suffix, and 5 under each of two prefix rows. At most two
 -- rows of SUFFIXES end one piece, and at most two prefix forms begin it. So a list with room for 16 holds all. Assumes nothing.
+use Rattle.std.specs.Prelude.{Err, Ok, Result}
+use Rattle.refusals.specs.declared.Refusal.{Refusal}
 use Prim.Native.Nat.{ℕ, suc, ◌+◌, ◌*◌, ◌<◌, ◌≤◌}
 use native.Mathlib.Omega.{arith}
 use mathlib.Core.Path.{◌≡◌, refl, sym, ap, ◌∙◌}
@@ -17,8 +19,6 @@ use Rattle.tables.proofs.Matches.{two_suffixes, two_prefix_forms}
 use Rattle.tables.proofs.Passing.{passing, two}
 use Rattle.sheet.specs.Replies.{Ask, letters_by, reply}
 use Rattle.sheet.specs.Inputs.{inputs_of}
-use Rattle.sheet.specs.declared.inputs.Inputs.{Inputs}
-use Rattle.sheet.specs.declared.inputs.Inputs.TheVariants as inputs
 use Rattle.sheet.specs.declared.letters.Letters.{Letters}
 use Rattle.strips.specs.Suffix.{sheds, is_long, without, first_character, plain, shared, remainders}
 use Rattle.strips.specs.Prefix.{leaves, least_after, after}
@@ -206,6 +206,6 @@ pub roots_few : (word sheet : List ℕ) → length (roots_for word sheet) ≤ ro
 unfolding roots_for
 roots_few word sheet = by (inputs_of word sheet)
   where
-    by : (i : Inputs) → length (roots_if i word sheet) ≤ root_limit
-    by inputs.Accepted = candidates-few (reply sheet) word
-    by (inputs.Refused r) = omega arith
+    by : (i : Result (Unit {0}) Refusal) → length (roots_if i word sheet) ≤ root_limit
+    by (Ok _) = candidates-few (reply sheet) word
+    by (Err r) = omega arith

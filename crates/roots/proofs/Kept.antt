@@ -1,11 +1,12 @@
 -- Laws of the list: one candidate more, once, in its place. The proofs of the functions of `list` cite these; those that hold for any
 -- element are `ranking`'s. Assumes nothing.
+use Rattle.std.specs.Prelude.{None, Some}
 use Prim.Native.Nat.{ℕ, zero, suc, ◌<◌, ◌≤◌}
 use native.Mathlib.Omega.{arith}
 use mathlib.Core.Path.{◌≡◌, refl, sym, ap}
 use mathlib.Core.Bool.{Bool, true, false}
 use mathlib.Core.List.{List, [], ◌∷◌}
-use lib.ListN.{length, take, drop, get_or}
+use lib.ListN.{length, take, get_or}
 use lib.Dec.{ltb}
 use lib.Seq.{length-take-le, take_all}
 use borrow.Author.Tests.{lt-ltb, le-ltb}
@@ -13,7 +14,7 @@ use Rattle.runs.specs.Runs.{pick}
 use Rattle.ranking.specs.Places.{put_in}
 use Rattle.decomposition.specs.declared.Parts.{Parts}
 use Rattle.roots.specs.Rank.{is_equal, key_order, ahead_of}
-use Rattle.roots.specs.Lists.{rows_of, is_some, holds_in, ranked, place_in, root_limit, no_candidate}
+use Rattle.roots.specs.Lists.{rows_of, is_some, first_in, holds_in, ranked, place_in, root_limit, no_candidate}
 use Rattle.roots.specs.Room.{once_within}
 use Rattle.roots.specs.declared.RootCandidate.{RootCandidate}
 use Rattle.roots.specs.declared.Roots.{Roots}
@@ -85,10 +86,15 @@ module _ (l : Roots) (n : length l.rows ≡ 16) where
       go (suc k) [] e = absurd (omega arith)
       go (suc k) (x ∷ xs) e = lt-ltb 0 (suc k) (omega arith)
 
-  pub first-row : is_some (rows_of l) ≡ true → rows_of l ≡ get_or l.rows 0 no_candidate ∷ drop 1 (rows_of l)
+  pub first-row : is_some (rows_of l) ≡ true → Some (get_or l.rows 0 no_candidate) ≡ first_in (rows_of l)
   first-row s = go l.count l.rows s
     where
-      go : (k : ℕ) (xs : List RootCandidate) → is_some (take k xs) ≡ true → take k xs ≡ get_or xs 0 no_candidate ∷ drop 1 (take k xs)
+      go : (k : ℕ) (xs : List RootCandidate) → is_some (take k xs) ≡ true → Some (get_or xs 0 no_candidate) ≡ first_in (take k xs)
       go zero xs e = let z : ◌≡◌ {A = ℕ} 0 1 = cc in absurd (omega arith)
       go (suc k) [] e = let z : ◌≡◌ {A = ℕ} 0 1 = cc in absurd (omega arith)
       go (suc k) (x ∷ xs) e = refl
+
+-- a list that has no row has no first
+pub first-none : (xs : List RootCandidate) → is_some xs ≡ false → None ≡ first_in xs
+first-none [] e = refl
+first-none (x ∷ xs) e = let z : ◌≡◌ {A = ℕ} 0 1 = cc in absurd (omega arith)

@@ -8,3 +8,4 @@ pub mod Worked
 pub mod Reached
 pub mod Total
 pub mod Meant
+pub mod Refused

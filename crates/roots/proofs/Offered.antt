@@ -1,5 +1,6 @@
 -- Laws of what is offered: one root with its labels, the remainders under a row, all rows, all forms. The proofs of the functions of
 -- `offers` cite these. Assumes nothing.
+use Rattle.std.specs.Prelude.{None, Some}
 use Prim.Native.Nat.{ℕ, suc, ◌+◌, ◌<◌, ◌≤◌}
 use native.Mathlib.Omega.{arith}
 use native.Mathlib.Numerals.{add-one}
@@ -8,17 +9,16 @@ use mathlib.Core.Bool.{Bool, true, false}
 use mathlib.Core.List.{List, [], ◌∷◌, ◌++◌, append_assoc}
 use lib.ListN.{length, take, drop, get_or, drop_of_length-le, length-drop}
 use lib.Seq.{drop-cons, length-take-le}
-use lib.Dec.{leb, ltb}
-use borrow.Author.Tests.{le-leb, lt-leb, lt-ltb}
+use lib.Dec.{leb}
+use borrow.Author.Tests.{le-leb, lt-leb}
 use Rattle.runs.specs.Runs.{pick}
 use Rattle.text.specs.Characters.{chars}
 use Rattle.tables.specs.declared.origins.Origin.{Origin}
 use Rattle.sheet.specs.Replies.{Ask, reply, letters_for, letters_by}
 use Rattle.sheet.specs.declared.letters.Letters.{Letters}
-use Rattle.strips.specs.Suffix.{fronts}
+use Rattle.strips.specs.Suffix.{front, fronts}
 use Rattle.strips.specs.declared.suffix.Rests.{Rests}
 use Rattle.strips.specs.Prefix.{leaves, rest_of}
-use Rattle.strips.specs.declared.prefix.Rest.TheVariants.{Nothing, From}
 use Rattle.origin.specs.Decisions.{decision_of}
 use Rattle.origin.specs.declared.OriginDecision.{OriginDecision}
 use Rattle.decomposition.specs.Strips.{label_row, least_root, left_of, open_rests, front_at}
@@ -122,27 +122,21 @@ among-append least f labels (r ∷ rs) ss =
     ∙ sym (append_assoc (pick (leb least (chars r)) (parts_of f r labels ∷ []) []) (parts_among least f labels rs) (parts_among least f labels ss))
 
 module _ (n : ℕ) (ask : Ask) (w : List ℕ) (xs : List RootCandidate) (least : ℕ) (f : Front) (labels piece : List ℕ) (r : Rests) where
-  pub rests_one : (ys : List RootCandidate) → r.count ≡ 1 → ys ≡ held_all n ask w xs (parts_among least f labels (take r.plain piece ∷ []))
-      → ys ≡ held_all n ask w xs (parts_among least f labels (fronts piece r))
-  rests_one ys e q = rw e q
-
-  pub rests_two : (ys zs : List RootCandidate) → 0 < r.count → (r.count ≡ 1 → ⊥) → ys ≡ held_all n ask w xs (parts_among least f labels (take r.plain piece ∷ []))
-      → zs ≡ held_all n ask w ys (parts_among least f labels (take r.shared piece ∷ []))
+  -- the plain one, then the shared one
+  pub rests_two : (ys zs : List RootCandidate) → ys ≡ held_all n ask w xs (parts_among least f labels (front piece r.plain))
+      → zs ≡ held_all n ask w ys (parts_among least f labels (front piece r.shared))
       → zs ≡ held_all n ask w xs (parts_among least f labels (fronts piece r))
-  rests_two ys zs h e q t =
-      let a : ltb 0 r.count ≡ true = lt-ltb 0 r.count h in
-      let b : ltb 1 r.count ≡ true = lt-ltb 1 r.count (omega arith) in
-      let u = parts_among least f labels (take r.plain piece ∷ []) in
-      let v = parts_among least f labels (take r.shared piece ∷ []) in
-      rw (a, b)
-      (t
+  rests_two ys zs q t =
+      let u = parts_among least f labels (front piece r.plain) in
+      let v = parts_among least f labels (front piece r.shared) in
+      t
       ∙ ap (λ (l : List RootCandidate). held_all n ask w l v) q
       ∙ sym (held-append n ask w xs u v)
-      ∙ ap (held_all n ask w xs) (sym (among-append least f labels (take r.plain piece ∷ []) (take r.shared piece ∷ []))))
+      ∙ ap (held_all n ask w xs) (sym (among-append least f labels (front piece r.plain) (front piece r.shared)))
 
-  pub rests_none : (0 < r.count → ⊥) → xs ≡ held_all n ask w xs (parts_among least f labels (fronts piece r))
+  pub rests_none : r.plain ≡ None → r.shared ≡ None → xs ≡ held_all n ask w xs (parts_among least f labels (fronts piece r))
   unfolding held_all
-  rests_none h = let e : r.count ≡ 0 = omega arith in rw e
+  rests_none p q = rw (p, q)
 
 -- All rows.
 
@@ -181,7 +175,7 @@ bare_is w f h =
     same_parts p = rw p
 
 module _ (n : ℕ) (ask : Ask) (w : List ℕ) (rows : List (List ℕ)) (k : ℕ) where
-  pub forms-some : (xs ys : List RootCandidate) (form : List ℕ) (from : ℕ) → k < length rows → form ≡ get_or rows k [] → From from ≡ rest_of w form
+  pub forms-some : (xs ys : List RootCandidate) (form : List ℕ) (from : ℕ) → k < length rows → form ≡ get_or rows k [] → Some from ≡ rest_of w form
       → ys ≡ held_all n ask w xs (bare w (front_at k from) ∷ one_suffix ask w (front_at k from))
       → held_all n ask w xs (under_forms ask w k (drop k rows)) ≡ held_all n ask w ys (under_forms ask w (k + 1) (drop (k + 1) rows))
   unfolding under_form
@@ -195,7 +189,7 @@ module _ (n : ℕ) (ask : Ask) (w : List ℕ) (rows : List (List ℕ)) (k : ℕ)
       (held-append n ask w xs (bare w f ∷ one_suffix ask w f) (under_forms ask w (suc k) (drop (suc k) rows))
       ∙ ap (λ (x : List RootCandidate). held_all n ask w x (under_forms ask w (suc k) (drop (suc k) rows))) (sym y))
 
-  pub forms-none : (xs : List RootCandidate) (form : List ℕ) → k < length rows → form ≡ get_or rows k [] → Nothing ≡ rest_of w form
+  pub forms-none : (xs : List RootCandidate) (form : List ℕ) → k < length rows → form ≡ get_or rows k [] → None ≡ rest_of w form
       → held_all n ask w xs (under_forms ask w k (drop k rows)) ≡ held_all n ask w xs (under_forms ask w (k + 1) (drop (k + 1) rows))
   unfolding under_form
   forms-none xs form h e o =

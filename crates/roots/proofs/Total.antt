@@ -6,8 +6,8 @@ use mathlib.Core.Path.{◌≡◌, refl, sym, ap, ◌∙◌}
 use mathlib.Core.Bool.{Bool, true, false}
 use mathlib.Core.List.{List, [], ◌∷◌}
 use Rattle.runs.specs.Runs.{pick, cmp}
-use Rattle.runs.specs.declared.Order.{Order}
-use Rattle.runs.specs.declared.Order.TheVariants.{Less, Equal, Greater}
+use Rattle.std.specs.declared.cmp.Ordering.{Ordering}
+use Rattle.std.specs.declared.cmp.Ordering.TheVariants.{Less, Equal, Greater}
 use Rattle.runs.proofs.Ordered.{turned, cmp_trans, cmp_turned, cmp_equal}
 use Rattle.text.specs.Characters.{chars}
 use Rattle.ranking.specs.Rank.{is_less}
@@ -20,49 +20,49 @@ use Rattle.roots.specs.Candidates.{is_known, candidate_by, kept_of, kept_all, of
 use Rattle.roots.specs.declared.RootCandidate.{RootCandidate}
 
 -- an order by three laws: turned round it is turned, what stands alike compares alike, and it is transitive
-record Fair {A : Type 0} (o : A → A → Order) : Type 0 where
+record Fair {A : Type 0} (o : A → A → Ordering) : Type 0 where
   turn : (a b : A) → o b a ≡ turned (o a b)
   alike : (a b c : A) → o a b ≡ Equal → o a c ≡ o b c
   trans : (a b c : A) → o a b ≡ Less → o b c ≡ Less → o a c ≡ Less
 
-turned_twice : (o : Order) → turned (turned o) ≡ o
+turned_twice : (o : Ordering) → turned (turned o) ≡ o
 turned_twice Less = refl
 turned_twice Equal = refl
 turned_twice Greater = refl
 
 -- what stands alike compares alike on the other side too
-alike_right : {A : Type 0} {o : A → A → Order} → Fair o → (a b c : A) → o b c ≡ Equal → o a c ≡ o a b
+alike_right : {A : Type 0} {o : A → A → Ordering} → Fair o → (a b c : A) → o b c ≡ Equal → o a c ≡ o a b
 alike_right {A} {o} f a b c e = f.turn c a ∙ ap turned (sym (f.alike b c a e)) ∙ sym (f.turn b a)
 
 -- Orders one after the other.
 
-then_turned : (p q : Order) → then_by (turned p) (turned q) ≡ turned (then_by p q)
+then_turned : (p q : Ordering) → then_by (turned p) (turned q) ≡ turned (then_by p q)
 then_turned Less q = refl
 then_turned Equal q = refl
 then_turned Greater q = refl
 
-then_equal : (p q : Order) → then_by p q ≡ Equal → (p ≡ Equal) × (q ≡ Equal)
+then_equal : (p q : Ordering) → then_by p q ≡ Equal → (p ≡ Equal) × (q ≡ Equal)
 then_equal Less q e = let z : ◌≡◌ {A = ℕ} 0 1 = cc in absurd (omega arith)
 then_equal Equal q e = (refl, e)
 then_equal Greater q e = let z : ◌≡◌ {A = ℕ} 0 1 = cc in absurd (omega arith)
 
-then_less : (pab pbc pac qab qbc qac : Order) → (pab ≡ Less → pbc ≡ Less → pac ≡ Less) → (pab ≡ Equal → pac ≡ pbc) → (pbc ≡ Equal → pac ≡ pab)
+then_less : (pab pbc pac qab qbc qac : Ordering) → (pab ≡ Less → pbc ≡ Less → pac ≡ Less) → (pab ≡ Equal → pac ≡ pbc) → (pbc ≡ Equal → pac ≡ pab)
     → (qab ≡ Less → qbc ≡ Less → qac ≡ Less) → then_by pab qab ≡ Less → then_by pbc qbc ≡ Less → then_by pac qac ≡ Less
-then_less Less Less pac qab qbc qac t l r q d e = ap (λ (o : Order). then_by o qac) (t refl refl)
-then_less Less Equal pac qab qbc qac t l r q d e = ap (λ (o : Order). then_by o qac) (r refl)
-then_less Equal Less pac qab qbc qac t l r q d e = ap (λ (o : Order). then_by o qac) (l refl)
-then_less Equal Equal pac qab qbc qac t l r q d e = ap (λ (o : Order). then_by o qac) (l refl) ∙ q d e
+then_less Less Less pac qab qbc qac t l r q d e = ap (λ (o : Ordering). then_by o qac) (t refl refl)
+then_less Less Equal pac qab qbc qac t l r q d e = ap (λ (o : Ordering). then_by o qac) (r refl)
+then_less Equal Less pac qab qbc qac t l r q d e = ap (λ (o : Ordering). then_by o qac) (l refl)
+then_less Equal Equal pac qab qbc qac t l r q d e = ap (λ (o : Ordering). then_by o qac) (l refl) ∙ q d e
 then_less Greater pbc pac qab qbc qac t l r q d e = let z : ◌≡◌ {A = ℕ} 0 1 = cc in absurd (omega arith)
 then_less Less Greater pac qab qbc qac t l r q d e = let z : ◌≡◌ {A = ℕ} 0 1 = cc in absurd (omega arith)
 then_less Equal Greater pac qab qbc qac t l r q d e = let z : ◌≡◌ {A = ℕ} 0 1 = cc in absurd (omega arith)
 
-module _ {A : Type 0} {p q : A → A → Order} (f : Fair p) (g : Fair q) where
+module _ {A : Type 0} {p q : A → A → Ordering} (f : Fair p) (g : Fair q) where
   then_fair : Fair (λ (a b : A). then_by (p a b) (q a b))
   then_fair = record {
-    turn = λ a b. ap (λ (o : Order). then_by o (q b a)) (f.turn a b) ∙ ap (then_by (turned (p a b))) (g.turn a b) ∙ then_turned (p a b) (q a b);
+    turn = λ a b. ap (λ (o : Ordering). then_by o (q b a)) (f.turn a b) ∙ ap (then_by (turned (p a b))) (g.turn a b) ∙ then_turned (p a b) (q a b);
     alike = λ a b c e.
         let d = then_equal (p a b) (q a b) e in
-        ap (λ (o : Order). then_by o (q a c)) (f.alike a b c d.0) ∙ ap (then_by (p b c)) (g.alike a b c d.1);
+        ap (λ (o : Ordering). then_by o (q a c)) (f.alike a b c d.0) ∙ ap (then_by (p b c)) (g.alike a b c d.1);
     trans = λ a b c d e.
         then_less (p a b) (p b c) (p a c) (q a b) (q b c) (q a c) (f.trans a b c) (f.alike a b c) (alike_right f a b c) (g.trans a b c) d e;
   }
@@ -77,7 +77,7 @@ texts_turned [] [] = refl
 texts_turned [] (y ∷ ys) = refl
 texts_turned (x ∷ xs) [] = refl
 texts_turned (x ∷ xs) (y ∷ ys) =
-    ap (λ (o : Order). then_by o (cmp_texts ys xs)) (cmp_turned x y) ∙ ap (then_by (turned (cmp x y))) (texts_turned xs ys) ∙ then_turned (cmp x y) (cmp_texts xs ys)
+    ap (λ (o : Ordering). then_by o (cmp_texts ys xs)) (cmp_turned x y) ∙ ap (then_by (turned (cmp x y))) (texts_turned xs ys) ∙ then_turned (cmp x y) (cmp_texts xs ys)
 
 pub texts_equal : (a b : List (List ℕ)) → cmp_texts a b ≡ Equal → a ≡ b
 texts_equal [] [] e = refl
@@ -128,10 +128,10 @@ having_fair = record { turn = turn; alike = alike; trans = trans }
     trans false false c d e = let z : ◌≡◌ {A = ℕ} 0 1 = cc in absurd (omega arith)
 
 -- larger first is the order of bytes of the two numbers, turned round
-swap_fair : {A : Type 0} {o : A → A → Order} → Fair o → Fair (λ (a b : A). o b a)
+swap_fair : {A : Type 0} {o : A → A → Ordering} → Fair o → Fair (λ (a b : A). o b a)
 swap_fair {A} {o} f = record { turn = λ a b. f.turn b a; alike = λ a b c e. alike_right f c b a e; trans = λ a b c d e. f.trans c b a e d }
 
-on_fair : {A B : Type 0} {o : B → B → Order} (k : A → B) → Fair o → Fair (λ (a b : A). o (k a) (k b))
+on_fair : {A B : Type 0} {o : B → B → Ordering} (k : A → B) → Fair o → Fair (λ (a b : A). o (k a) (k b))
 on_fair k f = record { turn = λ a b. f.turn (k a) (k b); alike = λ a b c e. f.alike (k a) (k b) (k c) e; trans = λ a b c d e. f.trans (k a) (k b) (k c) d e }
 
 descending_fair : Fair descending
@@ -206,7 +206,7 @@ module _ (w : List ℕ) where
   ranked_ascends r [] h a = (tt, tt)
   ranked_ascends r (x ∷ xs) h a = by (rank_of w r x) refl (is_equal (key_order w r.parts x.parts)) refl h (λ t. ranked_ascends r xs t a.1)
     where
-      by : (o : Order) → rank_of w r x ≡ o → (s : Bool) → is_equal (key_order w r.parts x.parts) ≡ s → pick s true (holds_in w r.parts xs) ≡ false
+      by : (o : Ordering) → rank_of w r x ≡ o → (s : Bool) → is_equal (key_order w r.parts x.parts) ≡ s → pick s true (holds_in w r.parts xs) ≡ false
           → (holds_in w r.parts xs ≡ false → Ascends (ranked w r xs)) → Ascends (pick (is_less o) (r ∷ x ∷ xs) (x ∷ ranked w r xs))
       by o e true k t f = let z : ◌≡◌ {A = ℕ} 0 1 = cc in absurd (omega arith)
       by Less e false k t f = ((e, before_all r x xs e a.0), a)

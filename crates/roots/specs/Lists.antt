@@ -1,5 +1,5 @@
 -- The list of candidates in rank order, each root with its prefixes and suffixes once. Assumes nothing.
-use Rattle.std.specs.Prelude.{ℕ, zero, suc, Bool, true, false, List, [], ◌∷◌, take}
+use Rattle.std.specs.Prelude.{ℕ, zero, suc, Bool, true, false, List, [], ◌∷◌, take, Option, None, Some}
 use Rattle.runs.specs.Runs.{pick}
 use Rattle.tables.specs.declared.origins.Origin.TheVariants.{Tatsam}
 use Rattle.decomposition.specs.declared.Parts.{Parts}
@@ -19,6 +19,11 @@ rows_of l = take l.count l.rows
 abbrev pub is_some : List RootCandidate → Bool
 is_some [] = false
 is_some (x ∷ xs) = true
+
+-- the first row, if there is one
+abbrev pub first_in : List RootCandidate → Option RootCandidate
+first_in [] = None
+first_in (x ∷ xs) = Some x
 
 -- some row has the root, prefixes and suffixes of p
 unfoldable pub holds_in : List ℕ → Parts → List RootCandidate → Bool

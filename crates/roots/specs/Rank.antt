@@ -1,41 +1,40 @@
 -- The rank of two candidates of one word (document 01, "Root candidates"): score descending, h, w, root characters descending, root
 -- bytes, prefix list, suffix list ascending. Labels are told by their rows and compare by their texts. Assumes nothing.
-use Rattle.std.specs.Prelude.{ℕ, ◌+◌, Bool, true, false, List, [], ◌∷◌, map, length, take, get_or, ltb}
+use Rattle.std.specs.Prelude.{ℕ, Bool, true, false, List, [], ◌∷◌, map, take, get_or, ltb}
 use Rattle.runs.specs.Runs.{pick, cmp}
-use Rattle.runs.specs.declared.Order.{Order}
-use Rattle.runs.specs.declared.Order.TheVariants.{Less, Equal, Greater}
+use Rattle.std.specs.declared.cmp.Ordering.{Ordering}
+use Rattle.std.specs.declared.cmp.Ordering.TheVariants.{Less, Equal, Greater}
 use Rattle.text.specs.Characters.{chars}
 use Rattle.tables.specs.Rows.{suffixes, prefix_labels}
-use Rattle.tables.specs.Tables.{row_at}
 use Rattle.ranking.specs.Rank.{is_less}
 use Rattle.decomposition.specs.Parts.{root_text}
 use Rattle.decomposition.specs.declared.Parts.{Parts}
 use Rattle.roots.specs.declared.RootCandidate.{RootCandidate}
 
-abbrev pub is_equal : Order → Bool
+abbrev pub is_equal : Ordering → Bool
 is_equal Less = false
 is_equal Equal = true
 is_equal Greater = false
 
 -- the first decides, and where it stands alike the rest
-abbrev pub then_by : Order → Order → Order
+abbrev pub then_by : Ordering → Ordering → Ordering
 then_by Less rest = Less
 then_by Equal rest = rest
 then_by Greater rest = Greater
 
 -- the larger number first
-abbrev pub descending : ℕ → ℕ → Order
+abbrev pub descending : ℕ → ℕ → Ordering
 descending a b = pick (ltb b a) Less (pick (ltb a b) Greater Equal)
 
 -- having it first
-abbrev pub having : Bool → Bool → Order
+abbrev pub having : Bool → Bool → Ordering
 having true true = Equal
 having true false = Less
 having false true = Greater
 having false false = Equal
 
 -- lists of texts, text by text by their bytes; a list stands before each longer one that it begins
-abbrev pub cmp_texts : List (List ℕ) → List (List ℕ) → Order
+abbrev pub cmp_texts : List (List ℕ) → List (List ℕ) → Ordering
 cmp_texts [] [] = Equal
 cmp_texts [] (y ∷ ys) = Less
 cmp_texts (x ∷ xs) [] = Greater
@@ -52,11 +51,11 @@ abbrev pub suffix_texts : Parts → List (List ℕ)
 suffix_texts p = map (text_of suffixes) (take p.suffix_count p.suffixes)
 
 -- root bytes, prefix list, suffix list ascending
-unfoldable pub key_order : List ℕ → Parts → Parts → Order
+unfoldable pub key_order : List ℕ → Parts → Parts → Ordering
 key_order w a b = then_by (cmp (root_text w a) (root_text w b)) (then_by (cmp_texts (prefix_texts a) (prefix_texts b)) (cmp_texts (suffix_texts a) (suffix_texts b)))
 
 -- Less where a comes first
-unfoldable pub rank_of : List ℕ → RootCandidate → RootCandidate → Order
+unfoldable pub rank_of : List ℕ → RootCandidate → RootCandidate → Ordering
 rank_of w a b =
     then_by (descending a.score b.score)
     (then_by (having a.known_headword b.known_headword)
@@ -66,7 +65,3 @@ rank_of w a b =
 
 unfoldable pub ahead_of : List ℕ → RootCandidate → RootCandidate → Bool
 ahead_of w a b = is_less (rank_of w a b)
-
--- a label by its row in a table that is lent, nothing where there is no such row
-unfoldable pub label_at : List ℕ → List ℕ → ℕ → List ℕ
-label_at bytes starts k = pick (ltb (k + 1) (length starts)) (row_at bytes starts k) []

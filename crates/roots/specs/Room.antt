@@ -1,11 +1,8 @@
--- What the code keeps on the way, in a list with room for n, and what it is lent. proofs/Bounded.antt shows that room for 16 is enough.
+-- What the code keeps on the way, in a list with room for n. proofs/Bounded.antt shows that room for 16 is enough.
 -- Assumes nothing.
-use Rattle.std.specs.Prelude.{ℕ, ◌≤◌, ◌≡◌, List, [], ◌∷◌, length, ltb}
+use Rattle.std.specs.Prelude.{ℕ, List, [], ◌∷◌, length, ltb}
 use Rattle.runs.specs.Runs.{pick}
-use Rattle.text.specs.Characters.{chars}
-use Rattle.tables.specs.Rows.{prefix_labels, suffixes}
-use Rattle.tables.specs.Tables.{Laid}
-use Rattle.sheet.specs.Replies.{Ask, Indexed, letters_by}
+use Rattle.sheet.specs.Replies.{Ask, letters_by}
 use Rattle.sheet.specs.declared.letters.Letters.{Letters}
 use Rattle.decomposition.specs.Parts.{root_text}
 use Rattle.decomposition.specs.declared.Parts.{Parts}
@@ -27,13 +24,3 @@ held_of n ask w xs p = held_by n ask w p (letters_by ask (root_text w p)) xs
 unfoldable pub held_all : ℕ → Ask → List ℕ → List RootCandidate → List Parts → List RootCandidate
 held_all n ask w xs [] = xs
 held_all n ask w xs (p ∷ ps) = held_all n ask w (held_of n ask w xs p) ps
-
--- what each step is lent: an accepted sheet with its line starts, a word of at most 192 bytes and the number of its characters, and
--- the tables of suffixes and of prefix labels
-pub record Lent (word sheet starts texts cuts labels labelCuts : List ℕ) (surface : ℕ) : Type 0 where
-  pub indexed : Indexed sheet starts
-  pub texts_laid : Laid suffixes texts cuts
-  pub labels-laid : Laid prefix_labels labels labelCuts
-  pub short : length word ≤ 192
-  pub counted : surface ≡ chars word
-  pub few : surface ≤ 192

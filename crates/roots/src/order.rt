@@ -1,52 +1,48 @@
 // The rank of two candidates of one word, and whether they are the same root, prefixes and suffixes.
-ghost use Rattle.std.specs.Prelude.{◌≡◌, map, [], ◌∷◌, length, take};
+ghost use Rattle.std.specs.Prelude.{◌≡◌, map, take};
 ghost use Rattle.tables.specs.Rows.{suffixes, prefix_labels};
-ghost use Rattle.tables.specs.Tables.{Laid, Cuts};
-ghost use Rattle.roots.specs.Rank.{descending, having, is_equal, label_at, cmp_texts, key_order, rank_of};
+ghost use Rattle.roots.specs.Rank.{descending, having, is_equal, text_of, cmp_texts, prefix_texts, suffix_texts, key_order, rank_of};
 
 use crate::RootCandidate;
 use decomposition::{Parts, root_of};
-use runs::{Order, compare};
-use tables::row;
+use runs::compare;
+use std::cmp::Ordering;
+use tables::{prefix_label, prefix_rows, suffix, suffix_rows};
 
 // Whether two things stand alike.
-pub(crate) fn is_equal(o: Order) -> bool
+pub(crate) fn is_equal(o: Ordering) -> bool
     ensures { result ≡ is_equal o }
 {
-    match o {
-        Order::Less => false,
-        Order::Equal => true,
-        Order::Greater => false,
-    }
+    matches!(o, Ordering::Equal)
 }
 
 // The larger number first.
-fn larger_first(a: usize, b: usize) -> Order
+fn larger_first(a: usize, b: usize) -> Ordering
     ensures { result ≡ descending a b }
 {
     if b < a {
-        return Order::Less;
+        return Ordering::Less;
     }
     if a < b {
-        return Order::Greater;
+        return Ordering::Greater;
     }
-    Order::Equal
+    Ordering::Equal
 }
 
 // Having it comes first.
-fn having_first(a: bool, b: bool) -> Order
+fn having_first(a: bool, b: bool) -> Ordering
     ensures { result ≡ having a b }
 {
     if a {
         if b {
-            return Order::Equal;
+            return Ordering::Equal;
         }
-        return Order::Less;
+        return Ordering::Less;
     }
     if b {
-        return Order::Greater;
+        return Ordering::Greater;
     }
-    Order::Equal
+    Ordering::Equal
 }
 
 // The first n bytes of a, or all of them where there are fewer.
@@ -59,109 +55,97 @@ fn first_of<'a>(a: &'a [u8], n: usize) -> &'a [u8]
     &a[..n]
 }
 
-// A label by its row, nothing where the table has no such row.
-fn label_at<'b, 's>(texts: &'b [u8], cuts: &'s [u16], k: u8) -> &'b [u8]
-    requires { Cuts texts.now cuts.now }
-    ensures { result.now ≡ label_at texts.now cuts.now k }
+// The label of row k of SUFFIXES, nothing where there is no such row.
+fn suffix_text(k: u8) -> &'static [u8]
+    ensures { result.now ≡ text_of suffixes k }
 {
     let i = k as usize;
-    if cuts.len() <= i + 1 {
-        return &texts[..0];
+    if i < suffix_rows().len() {
+        return suffix(i);
     }
-    row(texts, cuts, i)
+    b""
 }
 
-// The order of two lists of labels, given by their rows, label by label; a list stands before each longer one that it begins.
-pub(crate) fn compare_labels(texts: &[u8], cuts: &[u16], a: &[u8], b: &[u8]) -> Order
-    requires { Cuts texts.now cuts.now }
-    ensures { result ≡ cmp_texts (map (label_at texts.now cuts.now) a.now) (map (label_at texts.now cuts.now) b.now) }
+// The label of row k of PREFIX_FORMS, nothing where there is no such row.
+fn prefix_text(k: u8) -> &'static [u8]
+    ensures { result.now ≡ text_of prefix_labels k }
+{
+    let i = k as usize;
+    if i < prefix_rows().len() {
+        return prefix_label(i);
+    }
+    b""
+}
+
+// The order of two lists of suffix labels, given by their rows, label by label; a list stands before each longer one that it begins.
+fn compare_labels(a: &[u8], b: &[u8]) -> Ordering
+    ensures { result ≡ cmp_texts (map (text_of suffixes) a.now) (map (text_of suffixes) b.now) }
 {
     let mut i: usize = 0;
     while i < a.len() {
         if b.len() <= i {
-            return Order::Greater;
+            return Ordering::Greater;
         }
-        let order = compare(label_at(texts, cuts, a[i]), label_at(texts, cuts, b[i]));
+        let order = compare(suffix_text(a[i]), suffix_text(b[i]));
         match order {
-            Order::Less => {
-                return Order::Less;
+            Ordering::Less => {
+                return Ordering::Less;
             }
-            Order::Greater => {
-                return Order::Greater;
+            Ordering::Greater => {
+                return Ordering::Greater;
             }
-            Order::Equal => {
+            Ordering::Equal => {
                 i += 1;
             }
         }
     }
     if i < b.len() {
-        return Order::Less;
+        return Ordering::Less;
     }
-    Order::Equal
+    Ordering::Equal
 }
 
 // The order of two lists of suffix labels.
-fn suffix_order(texts: &[u8], cuts: &[u16], a: Parts, b: Parts) -> Order
-    requires { Cuts texts.now cuts.now }
-    ensures { result ≡ cmp_texts (map (label_at texts.now cuts.now) (take a.suffix_count a.suffixes))
-        (map (label_at texts.now cuts.now) (take b.suffix_count b.suffixes)) }
+fn suffix_order(a: Parts, b: Parts) -> Ordering
+    ensures { result ≡ cmp_texts (suffix_texts a) (suffix_texts b) }
 {
     let x = a.suffixes;
     let n = a.suffix_count as usize;
     let y = b.suffixes;
     let m = b.suffix_count as usize;
-    compare_labels(texts, cuts, first_of(&x, n), first_of(&y, m))
+    compare_labels(first_of(&x, n), first_of(&y, m))
 }
 
-// The order of two lists of prefix labels.
-fn prefix_order(texts: &[u8], cuts: &[u16], a: Parts, b: Parts) -> Order
-    requires { Cuts texts.now cuts.now }
-    ensures { result ≡ cmp_texts (map (label_at texts.now cuts.now) (take a.prefix_count (a.prefix ∷ [])))
-        (map (label_at texts.now cuts.now) (take b.prefix_count (b.prefix ∷ []))) }
+// The order of two lists of prefix labels, each of one or none.
+fn prefix_order(a: Parts, b: Parts) -> Ordering
+    ensures { result ≡ cmp_texts (prefix_texts a) (prefix_texts b) }
 {
-    let x = [a.prefix];
-    let n = a.prefix_count as usize;
-    let y = [b.prefix];
-    let m = b.prefix_count as usize;
-    compare_labels(texts, cuts, first_of(&x, n), first_of(&y, m))
+    match (a.prefix_count, b.prefix_count) {
+        (0, 0) => Ordering::Equal,
+        (0, _) => Ordering::Less,
+        (_, 0) => Ordering::Greater,
+        (_, _) => compare(prefix_text(a.prefix), prefix_text(b.prefix)),
+    }
 }
 
 // The order of two roots with their labels: root bytes, prefix labels, suffix labels. They stand alike only where all three are the
 // same.
-pub(crate) fn key_order(
-    word: &[u8],
-    texts: &[u8],
-    cuts: &[u16],
-    labels: &[u8],
-    label_cuts: &[u16],
-    a: Parts,
-    b: Parts,
-) -> Order
-    requires { Laid suffixes texts.now cuts.now × Laid prefix_labels labels.now label_cuts.now }
+pub(crate) fn key_order(word: &[u8], a: Parts, b: Parts) -> Ordering
     ensures { result ≡ key_order word.now a b }
 {
     let root = compare(root_of(word, a), root_of(word, b));
     if !is_equal(root) {
         return root;
     }
-    let prefix = prefix_order(labels, label_cuts, a, b);
+    let prefix = prefix_order(a, b);
     if !is_equal(prefix) {
         return prefix;
     }
-    suffix_order(texts, cuts, a, b)
+    suffix_order(a, b)
 }
 
 // The rank of two candidates of the word: Less where the first comes first.
-pub(crate) fn rank(
-    word: &[u8],
-    texts: &[u8],
-    cuts: &[u16],
-    labels: &[u8],
-    label_cuts: &[u16],
-    a: RootCandidate,
-    b: RootCandidate,
-) -> Order
-    requires { Laid suffixes texts.now cuts.now × Laid prefix_labels labels.now label_cuts.now }
+pub(crate) fn rank(word: &[u8], a: RootCandidate, b: RootCandidate) -> Ordering
     ensures { result ≡ rank_of word.now a b }
 {
     let score = larger_first(a.score as usize, b.score as usize);
@@ -184,5 +168,5 @@ pub(crate) fn rank(
     if !is_equal(length) {
         return length;
     }
-    key_order(word, texts, cuts, labels, label_cuts, p, q)
+    key_order(word, p, q)
 }

@@ -3,12 +3,11 @@
 use mathlib.Core.Path.{◌≡◌, refl, sym, ap, ◌∙◌}
 use mathlib.Core.Bool.{Bool, true, false, ◌&&◌}
 use mathlib.Core.List.{List, [], ◌∷◌, ◌++◌}
-use Prim.Native.Nat.{ℕ, suc, ◌<◌}
+use Prim.Native.Nat.{ℕ, ◌<◌, ◌≤◌}
 use native.Mathlib.Omega.{arith}
-use lib.ListN.{length, drop, get_or}
-use lib.Seq.{drop-cons}
-use lib.Dec.{eqb}
-use borrow.Author.Tests.{eqb-true, eq-eqb}
+use lib.ListN.{length, drop, take}
+use lib.Dec.{eqb, leb}
+use borrow.Author.Tests.{eqb-true, eq-eqb, leb-true, leb-false}
 use Rattle.runs.specs.Runs.{same_text, begins_with}
 
 pub and_assoc : (a b c : Bool) → (a && (b && c)) ≡ ((a && b) && c)
@@ -49,14 +48,15 @@ begins-short (x ∷ h) (y ∷ s) l = rw (begins-short h s (omega arith)) (go (eq
     go true = refl
     go false = refl
 
--- a head as long as the run is the run
-pub begins_same : (a b : List ℕ) → length a ≡ length b → same_text a b ≡ begins_with a b
-begins_same [] [] l = refl
-begins_same [] (y ∷ b) l = let z : ◌≡◌ {A = ℕ} 0 1 = omega arith in (cc)
-begins_same (x ∷ a) [] l = refl
-begins_same (x ∷ a) (y ∷ b) l = ap (λ (z : Bool). eqb x y && z) (begins_same a b (omega arith))
+-- a head is the run's first bytes, as many as it has
+begins_here : (h s : List ℕ) → length h ≤ length s → begins_with h s ≡ same_text h (take (length h) s)
+begins_here [] s l = refl
+begins_here (x ∷ h) [] l = absurd (omega arith)
+begins_here (x ∷ h) (y ∷ s) l = ap (λ (z : Bool). eqb x y && z) (begins_here h s (omega arith))
 
--- one byte of each
-pub begins_turn : (h s : List ℕ) (i : ℕ) → i < length h → i < length s →
-    begins_with (drop i h) (drop i s) ≡ (eqb (get_or h i 0) (get_or s i 0) && begins_with (drop (suc i) h) (drop (suc i) s))
-begins_turn h s i a b = rw (drop-cons h i 0, drop-cons s i 0)
+pub begins_part : (h s : List ℕ) → begins_with h s ≡ (leb (length h) (length s) && same_text h (take (length h) s))
+begins_part h s = by (leb (length h) (length s)) refl
+  where
+    by : (b : Bool) → leb (length h) (length s) ≡ b → begins_with h s ≡ (b && same_text h (take (length h) s))
+    by true e = begins_here h s (leb-true _ _ e)
+    by false e = begins-short h s (leb-false _ _ e)

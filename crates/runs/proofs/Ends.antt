@@ -2,12 +2,12 @@
 use mathlib.Core.Path.{◌≡◌, refl, sym, ap, ◌∙◌}
 use mathlib.Core.Bool.{Bool, true, false}
 use mathlib.Core.List.{List, ◌++◌}
-use Prim.Native.Nat.{ℕ, zero, suc, ◌+◌, ◌-◌, ◌<◌, ◌≤◌}
+use Prim.Native.Nat.{ℕ, ◌-◌, ◌<◌, ◌≤◌}
 use native.Mathlib.Omega.{arith}
-use lib.ListN.{length, take, drop, get_or, length-append, length-drop, take-append-drop, drop_of_length-le}
-use lib.Seq.{drop-cons, drop_at, get_or-drop}
+use lib.ListN.{length, take, drop, get_or, length-append, take-append-drop}
+use lib.Seq.{drop_at}
 use lib.Dec.{leb}
-use borrow.Author.Tests.{le-leb, lt-leb, leb-true, eq-eqb}
+use borrow.Author.Tests.{le-leb, lt-leb, leb-true}
 use Rattle.runs.specs.Runs.{same_text, ends_in}
 use Rattle.runs.proofs.Ordered.{same_true, same_refl}
 use Rattle.runs.proofs.Begins.{and_left, and_right}
@@ -41,34 +41,9 @@ same_differs a b i h = go (same_text a b) refl
     go false e = refl
     go true e = absurd (h (ap (λ (l : List ℕ). get_or l i 0) (same_true a b e)))
 
--- a byte of each that is the same, before two runs that are the same
-pub same_turn : (a b : List ℕ) (i : ℕ) → i < length a → i < length b → get_or a i 0 ≡ get_or b i 0 →
-    same_text (drop (suc i) a) (drop (suc i) b) ≡ true → same_text (drop i a) (drop i b) ≡ true
-same_turn a b i p q e h = rw (drop-cons a i 0, drop-cons b i 0, eq-eqb _ _ e) h
-
 pub same_lengths : (a b : List ℕ) → (length a ≡ length b → ⊥) → same_text a b ≡ false
 same_lengths a b h = go (same_text a b) refl
   where
     go : (r : Bool) → same_text a b ≡ r → r ≡ false
     go false e = refl
     go true e = absurd (h (ap length (same_true a b e)))
-
--- the last bytes of s and of t compared from the last on: f is where the last bytes of s begin
-module _ (s t : List ℕ) (f : ℕ) where
-  pub tail_none : length s ≡ f + length t → same_text (drop (length t) (drop f s)) (drop (length t) t) ≡ true
-  tail_none h =
-      let p : length (drop f s) ≤ length t = simp length-drop (omega arith) in
-      let q : length t ≤ length t = omega arith in
-      rw (drop_of_length-le (drop f s) p, drop_of_length-le t q)
-
-  pub tail_differs : (k : ℕ) → (get_or s (f + k) 0 ≡ get_or t k 0 → ⊥) → same_text (drop f s) t ≡ false
-  tail_differs k h = same_differs (drop f s) t k (λ e. h (sym (get_or-drop f s k 0) ∙ e))
-
-  pub tail_turn : (k : ℕ) → 0 < k → k ≤ length t → length s ≡ f + length t → get_or s (f + (k - 1)) 0 ≡ get_or t (k - 1) 0 →
-      same_text (drop k (drop f s)) (drop k t) ≡ true → same_text (drop (k - 1) (drop f s)) (drop (k - 1) t) ≡ true
-  tail_turn zero z h l e r = let y : ◌≡◌ {A = ℕ} 0 1 = omega arith in (cc)
-  tail_turn (suc k) z h l e r =
-      let p : suc k - 1 ≡ k = omega arith in
-      let e' : get_or s (f + k) 0 ≡ get_or t k 0 = rw p at e in
-      let q : k < length (drop f s) = simp length-drop (omega arith) in
-      rw p (same_turn (drop f s) t k q (omega arith) (get_or-drop f s k 0 ∙ e') r)

@@ -3,29 +3,28 @@
 use mathlib.Core.Path.{◌≡◌, refl, sym, ap, ◌∙◌}
 use mathlib.Core.Bool.{Bool, true, false}
 use mathlib.Core.List.{List, [], ◌∷◌}
-use Prim.Native.Nat.{ℕ, ◌+◌, ◌<◌, ◌≤◌}
+use Prim.Native.Nat.{ℕ, ◌<◌, ◌≤◌}
 use native.Mathlib.Nat.{le_antisymm}
-use native.Mathlib.Numerals.{add-one}
 use native.Mathlib.Omega.{arith}
-use lib.ListN.{length, drop, get_or, drop_of_length-le}
+use lib.ListN.{length, drop, drop_of_length-le}
 use lib.Seq.{drop-cons}
 use lib.Dec.{eqb, ltb}
 use borrow.Author.Tests.{ltb-true, ltb-false, lt-ltb, le-ltb, eq-eqb, ne_eqb}
 use Rattle.runs.specs.Runs.{pick, same_text, cmp}
-use Rattle.runs.specs.declared.Order.{Order}
-use Rattle.runs.specs.declared.Order.TheVariants.{Less, Equal, Greater}
+use Rattle.std.specs.declared.cmp.Ordering.{Ordering}
+use Rattle.std.specs.declared.cmp.Ordering.TheVariants.{Less, Equal, Greater}
 
 -- what `cmp` says of x ∷ xs and y ∷ ys where it says r of xs and ys
-abbrev pub step : ℕ → ℕ → Order → Order
+abbrev pub step : ℕ → ℕ → Ordering → Ordering
 step x y r = pick (ltb x y) Less (pick (ltb y x) Greater r)
 
-pub step_less : (x y : ℕ) (r : Order) → x < y → step x y r ≡ Less
+pub step_less : (x y : ℕ) (r : Ordering) → x < y → step x y r ≡ Less
 step_less x y r h = rw (lt-ltb x y h)
 
-pub step_greater : (x y : ℕ) (r : Order) → y < x → step x y r ≡ Greater
+pub step_greater : (x y : ℕ) (r : Ordering) → y < x → step x y r ≡ Greater
 step_greater x y r h = let l : y ≤ x = omega arith in rw (le-ltb x y l, lt-ltb y x h)
 
-pub step_same : (x y : ℕ) (r : Order) → x ≡ y → step x y r ≡ r
+pub step_same : (x y : ℕ) (r : Ordering) → x ≡ y → step x y r ≡ r
 step_same x y r e = let k : y ≤ x = omega arith in let l : x ≤ y = omega arith in rw (le-ltb x y k, le-ltb y x l)
 
 -- the three ways in which two numbers stand
@@ -43,7 +42,7 @@ stand x y = go (ltb x y) (ltb y x) refl refl
     go false false p q = alike (le_antisymm (ltb-false y x q) (ltb-false x y p))
 
 -- an answer of `step`, by the way in which the two numbers stand
-pub by_head : {P : Type 0} (x y : ℕ) (r o : Order) → step x y r ≡ o →
+pub by_head : {P : Type 0} (x y : ℕ) (r o : Ordering) → step x y r ≡ o →
     (x < y → Less ≡ o → P) → (y < x → Greater ≡ o → P) → (x ≡ y → r ≡ o → P) → P
 by_head {P} x y r o e l g s = go (stand x y)
   where
@@ -66,7 +65,7 @@ cmp_trans (x ∷ xs) (y ∷ ys) (z ∷ zs) p q =
     (λ k f. step_same x z _ (omega arith) ∙ cmp_trans xs ys zs e f))
 
 -- the order as seen from the other side
-abbrev pub turned : Order → Order
+abbrev pub turned : Ordering → Ordering
 turned Less = Greater
 turned Equal = Equal
 turned Greater = Less
@@ -92,7 +91,7 @@ pub cmp_refl : (a : List ℕ) → cmp a a ≡ Equal
 cmp_refl [] = refl
 cmp_refl (x ∷ xs) = step_same x x _ refl ∙ cmp_refl xs
 
-abbrev pub is_equal : Order → Bool
+abbrev pub is_equal : Ordering → Bool
 is_equal Less = false
 is_equal Equal = true
 is_equal Greater = false
@@ -113,38 +112,26 @@ same_refl a = same_cmp a a ∙ ap is_equal (cmp_refl a)
 pub same_true : (a b : List ℕ) → same_text a b ≡ true → a ≡ b
 same_true a b e = go (cmp a b) refl (sym (same_cmp a b) ∙ e)
   where
-    go : (o : Order) → cmp a b ≡ o → is_equal o ≡ true → a ≡ b
+    go : (o : Ordering) → cmp a b ≡ o → is_equal o ≡ true → a ≡ b
     go Less p q = cc
     go Equal p q = cmp_equal a b p
     go Greater p q = cc
 
--- one look at the i-th bytes of two runs whose first i bytes are alike
+-- one of two runs ends at the i-th byte, the other goes on
 module _ (a b : List ℕ) (i : ℕ) where
-  pub turn_less : i < length a → i < length b → get_or a i 0 < get_or b i 0 → cmp (drop i a) (drop i b) ≡ Less
-  turn_less p q h = rw (drop-cons a i 0, drop-cons b i 0) (step_less _ _ _ h)
-
-  pub turn_greater : i < length a → i < length b → get_or b i 0 < get_or a i 0 → cmp (drop i a) (drop i b) ≡ Greater
-  turn_greater p q h = rw (drop-cons a i 0, drop-cons b i 0) (step_greater _ _ _ h)
-
-  pub turn_same : i < length a → i < length b → get_or a i 0 ≡ get_or b i 0 → cmp (drop i a) (drop i b) ≡ cmp (drop (i + 1) a) (drop (i + 1) b)
-  turn_same p q h = rw (add-one, drop-cons a i 0, drop-cons b i 0) (step_same _ _ _ h)
-
   pub turn_long : i < length a → length b ≤ i → cmp (drop i a) (drop i b) ≡ Greater
   turn_long p q = rw (drop-cons a i 0, drop_of_length-le b q)
 
   pub turn_short : length a ≤ i → i < length b → cmp (drop i a) (drop i b) ≡ Less
   turn_short p q = rw (drop-cons b i 0, drop_of_length-le a p)
 
-  pub turn_ended : length a ≤ i → length b ≤ i → cmp (drop i a) (drop i b) ≡ Equal
-  turn_ended p q = rw (drop_of_length-le a p, drop_of_length-le b q)
-
 -- a question in two parts: what the first leaves open the second decides
-abbrev pub and_then : Order → Order → Order
+abbrev pub and_then : Ordering → Ordering → Ordering
 and_then Less r = Less
 and_then Equal r = r
 and_then Greater r = Greater
 
-pub step_then : (x y : ℕ) (r s : Order) → step x y (and_then r s) ≡ and_then (step x y r) s
+pub step_then : (x y : ℕ) (r s : Ordering) → step x y (and_then r s) ≡ and_then (step x y r) s
 step_then x y r s = go (ltb x y) (ltb y x)
   where
     go : (b c : Bool) → pick b Less (pick c Greater (and_then r s)) ≡ and_then (pick b Less (pick c Greater r)) s

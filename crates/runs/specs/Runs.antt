@@ -1,7 +1,7 @@
 -- Runs of bytes, and how two of them compare: by exact bytes, nothing else. Every crate above cites these. Assumes nothing.
 use Rattle.std.specs.Prelude.{ℕ, ◌-◌, Bool, true, false, ◌&&◌, List, [], ◌∷◌, length, drop, eqb, leb, ltb}
-use Rattle.runs.specs.declared.Order.{Order}
-use Rattle.runs.specs.declared.Order.TheVariants.{Less, Equal, Greater}
+use Rattle.std.specs.declared.cmp.Ordering.{Ordering}
+use Rattle.std.specs.declared.cmp.Ordering.TheVariants.{Less, Equal, Greater}
 
 -- the first where the test holds, else the second
 abbrev pub pick : {A : Type 0} → Bool → A → A → A
@@ -16,13 +16,13 @@ same_text (x ∷ xs) [] = false
 same_text (x ∷ xs) (y ∷ ys) = eqb x y && same_text xs ys
 
 -- the order of a and b by their bytes, from the first on; a run stands before each longer run that it begins
-abbrev pub cmp : List ℕ → List ℕ → Order
+abbrev pub cmp : List ℕ → List ℕ → Ordering
 cmp [] [] = Equal
 cmp [] (y ∷ ys) = Less
 cmp (x ∷ xs) [] = Greater
 cmp (x ∷ xs) (y ∷ ys) = pick (ltb x y) Less (pick (ltb y x) Greater (cmp xs ys))
 
-abbrev pub is_less : Order → Bool
+abbrev pub is_less : Ordering → Bool
 is_less Less = true
 is_less Equal = false
 is_less Greater = false

@@ -6,63 +6,46 @@ ghost use Rattle.std.specs.Prelude.{◌≡◌, ◌+◌, ◌≤◌, length};
 ghost use Rattle.runs.specs.Runs.{same_text, cmp, begins_with, ends_in};
 ghost use Rattle.runs.specs.Bytes.{index_of, slice};
 
-// How a run of bytes stands to another, by exact bytes.
-#[derive(Clone, Copy)]
-pub enum Order {
-    Less,
-    Equal,
-    Greater,
-}
+use std::cmp::Ordering;
 
-// Whether a and b are the same bytes. Runs of two lengths are told apart without a look at their bytes.
+// Whether a and b are the same bytes.
 pub fn same(a: &[u8], b: &[u8]) -> bool
     ensures { result ≡ same_text a.now b.now }
 {
-    if a.len() != b.len() {
-        return false;
-    }
-    begins_with(b, a)
+    a == b
 }
 
 // The order of a and b by their first byte that differs; a run stands before each longer one that it begins.
 // It takes any two runs.
-pub fn compare(a: &[u8], b: &[u8]) -> Order
+#[tactic(auto, using(crate::proofs::Ordered::turn_long, crate::proofs::Ordered::turn_short))]
+pub fn compare(a: &[u8], b: &[u8]) -> Ordering
     ensures { result ≡ cmp a.now b.now }
 {
     let mut i = 0;
     while i < a.len() {
         if b.len() <= i {
-            return Order::Greater;
+            return Ordering::Greater;
         }
         if a[i] < b[i] {
-            return Order::Less;
+            return Ordering::Less;
         }
         if b[i] < a[i] {
-            return Order::Greater;
+            return Ordering::Greater;
         }
         i += 1;
     }
     if i < b.len() {
-        return Order::Less;
+        return Ordering::Less;
     }
-    Order::Equal
+    Ordering::Equal
 }
 
 // Whether head stands at the front of s. It takes any two runs, a head longer than s too.
+#[tactic(auto, using(crate::proofs::Begins::begins_part))]
 pub fn begins_with(s: &[u8], head: &[u8]) -> bool
     ensures { result ≡ begins_with head.now s.now }
 {
-    if s.len() < head.len() {
-        return false;
-    }
-    let mut i = 0;
-    while i < head.len() {
-        if s[i] != head[i] {
-            return false;
-        }
-        i += 1;
-    }
-    true
+    head.len() <= s.len() && head == &s[..head.len()]
 }
 
 // Whether s ends in tail. It compares from the last byte on, by which texts of one script differ most.
@@ -72,11 +55,9 @@ pub fn ends_with(s: &[u8], tail: &[u8]) -> bool
     if s.len() < tail.len() {
         return false;
     }
-    let from = s.len() - tail.len();
-    let mut left = tail.len();
-    while 0 < left {
-        left -= 1;
-        if s[from + left] != tail[left] {
+    let end = &s[s.len() - tail.len()..];
+    for k in (0..tail.len()).rev() {
+        if end[k] != tail[k] {
             return false;
         }
     }
@@ -88,12 +69,6 @@ pub fn find(s: &[u8], from: usize, to: usize, b: u8) -> usize
     requires { (from ≤ to) × (to ≤ length s.now) }
     ensures { (result ≡ from + index_of b (slice from to s.now)) × (result ≤ to) }
 {
-    let mut i = from;
-    while i < to {
-        if s[i] == b {
-            return i;
-        }
-        i += 1;
-    }
-    to
+    let part = &s[from..to];
+    from + part.iter().position(|x| *x == b).unwrap_or(part.len())
 }

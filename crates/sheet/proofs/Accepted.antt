@@ -1,5 +1,6 @@
 -- What acceptance gives of a sheet: its length, a form at every line start, and keys that go up from line to line.
 -- The search and the count of the lines cite it. Assumes nothing.
+use Rattle.std.specs.Prelude.{Err, Ok}
 use mathlib.Core.Path.{◌≡◌, refl, ap, ◌∙◌}
 use mathlib.Core.Bool.{Bool, true, false}
 use mathlib.Core.List.Memᴰ
@@ -11,27 +12,27 @@ use lib.ListN.{length, take, drop, get_or}
 use lib.Dec.{ltb}
 use borrow.Author.Tests.{ltb-false}
 use Rattle.runs.specs.Runs.{pick, cmp, is_less}
-use Rattle.runs.specs.declared.Order.{Order}
-use Rattle.runs.specs.declared.Order.TheVariants.{Less, Equal, Greater}
+use Rattle.std.specs.declared.cmp.Ordering.{Ordering}
+use Rattle.std.specs.declared.cmp.Ordering.TheVariants.{Less, Equal, Greater}
 use Rattle.runs.proofs.Ordered.{cmp_trans}
 use Rattle.sheet.specs.Forms.{is_form, key}
 use Rattle.sheet.specs.Limits.{sheet_limit}
 use Rattle.sheet.specs.Lines.{starts_of, line_at, judged, sheet_check}
-use Rattle.sheet.specs.declared.check.SheetCheck.TheVariants.{Accepted, TooLong, NoForm, NotAbove}
+use Rattle.sheet.specs.declared.check.SheetFault.TheVariants.{TooLong, NoForm, NotAbove}
 
-pub accepted-short : (s : List ℕ) → sheet_check s ≡ Accepted → length s ≤ sheet_limit
+pub accepted-short : (s : List ℕ) → sheet_check s ≡ Ok tt → length s ≤ sheet_limit
 unfolding sheet_check
 accepted-short s h = go (ltb sheet_limit (length s)) refl h
   where
-    go : (b : Bool) → ltb sheet_limit (length s) ≡ b → pick b TooLong (judged s [] (starts_of s)) ≡ Accepted → length s ≤ sheet_limit
+    go : (b : Bool) → ltb sheet_limit (length s) ≡ b → pick b (Err TooLong) (judged s [] (starts_of s)) ≡ Ok tt → length s ≤ sheet_limit
     go true e f = let z : ◌≡◌ {A = ℕ} 0 1 = cc in omega arith
     go false e f = ltb-false _ _ e
 
-accepted-judged : (s : List ℕ) → sheet_check s ≡ Accepted → judged s [] (starts_of s) ≡ Accepted
+accepted-judged : (s : List ℕ) → sheet_check s ≡ Ok tt → judged s [] (starts_of s) ≡ Ok tt
 unfolding sheet_check
 accepted-judged s h = go (ltb sheet_limit (length s)) h
   where
-    go : (b : Bool) → pick b TooLong (judged s [] (starts_of s)) ≡ Accepted → judged s [] (starts_of s) ≡ Accepted
+    go : (b : Bool) → pick b (Err TooLong) (judged s [] (starts_of s)) ≡ Ok tt → judged s [] (starts_of s) ≡ Ok tt
     go true f = cc
     go false f = f
 
@@ -41,26 +42,26 @@ GoesUp s last [] = Unit {0}
 GoesUp s last (at ∷ places) =
     (is_form (drop at s) ≡ true) × (cmp last (key (line_at s at)) ≡ Less) × GoesUp s (key (line_at s at)) places
 
-less_true : (o : Order) → is_less o ≡ true → o ≡ Less
+less_true : (o : Ordering) → is_less o ≡ true → o ≡ Less
 less_true Less e = refl
 less_true Equal e = cc
 less_true Greater e = cc
 
-judged_up : (s last places : List ℕ) → judged s last places ≡ Accepted → GoesUp s last places
+judged_up : (s last places : List ℕ) → judged s last places ≡ Ok tt → GoesUp s last places
 unfolding judged
 judged_up s last [] h = tt
 judged_up s last (at ∷ places) h =
     go (is_form (drop at s)) (is_less (cmp last (key (line_at s at)))) refl refl (judged_up s (key (line_at s at)) places) h
   where
     go : (f l : Bool) → is_form (drop at s) ≡ f → is_less (cmp last (key (line_at s at))) ≡ l →
-        (judged s (key (line_at s at)) places ≡ Accepted → GoesUp s (key (line_at s at)) places) →
-        pick f (pick l (judged s (key (line_at s at)) places) (NotAbove at)) (NoForm at) ≡ Accepted →
+        (judged s (key (line_at s at)) places ≡ Ok tt → GoesUp s (key (line_at s at)) places) →
+        pick f (pick l (judged s (key (line_at s at)) places) (Err (NotAbove at))) (Err (NoForm at)) ≡ Ok tt →
         (is_form (drop at s) ≡ true) × (cmp last (key (line_at s at)) ≡ Less) × GoesUp s (key (line_at s at)) places
     go true true p q rest e = (p, less_true _ q, rest e)
     go true false p q rest e = let z : ◌≡◌ {A = ℕ} 0 1 = cc in absurd (omega arith)
     go false l p q rest e = let z : ◌≡◌ {A = ℕ} 0 1 = cc in absurd (omega arith)
 
-pub accepted_up : (s : List ℕ) → sheet_check s ≡ Accepted → GoesUp s [] (starts_of s)
+pub accepted_up : (s : List ℕ) → sheet_check s ≡ Ok tt → GoesUp s [] (starts_of s)
 accepted_up s h = judged_up s [] (starts_of s) (accepted-judged s h)
 
 module _ (s : List ℕ) where

@@ -8,7 +8,10 @@ use lib.Seq.{drop-cons, drop-drop}
 use lib.Dec.{eqb, ltb}
 use borrow.Author.Tests.{eq-eqb, ne_eqb}
 use Rattle.sheet.specs.Letters.{has, past, after_flags, tag_of, letters_of}
-use Rattle.sheet.specs.declared.letters.Tag.{Tag}
+use Rattle.std.specs.Prelude.{Option, Some, None}
+use Rattle.tables.specs.declared.origins.Origin.{Origin}
+use Rattle.tables.specs.declared.origins.Origin.TheVariants.{Tatsam, Tadbhav, Deshaj, Aagantuk}
+use Rattle.runs.specs.Runs.{pick}
 use Rattle.sheet.specs.declared.letters.Letters.{Letters}
 
 module _ (v : List ℕ) (i c : ℕ) where
@@ -30,8 +33,20 @@ module _ (v : List ℕ) (i c : ℕ) where
   pub past-none : has c (drop i v) ≡ false → drop i v ≡ past c (drop i v)
   past-none e = rw e
 
+-- the tag of a letter
+abbrev pub tag_by : ℕ → Option Origin
+tag_by b = pick (eqb 0x74 b) (Some Tatsam) (pick (eqb 0x62 b) (Some Tadbhav) (pick (eqb 0x64 b) (Some Deshaj) (pick (eqb 0x61 b) (Some Aagantuk) None)))
+
+pub tag_here : (v : List ℕ) (i b : ℕ) → i < length v → get_or v i 0 ≡ b → tag_by b ≡ tag_of (drop i v)
+unfolding tag_of
+tag_here v i b h e = rw (has_here v i 0x74 h, has_here v i 0x62 h, has_here v i 0x64 h, has_here v i 0x61 h, e)
+
+pub tag_end : (v : List ℕ) (i : ℕ) → length v ≤ i → None ≡ tag_of (drop i v)
+unfolding tag_of
+tag_end v i h = rw (has_end v i 0x74 h, has_end v i 0x62 h, has_end v i 0x64 h, has_end v i 0x61 h)
+
 -- letters that agree in each part
-same_letters : {a b c d e a' b' c' d' e' : Bool} {t t' : Tag} → a ≡ a' → b ≡ b' → c ≡ c' → d ≡ d' → e ≡ e' → t ≡ t'
+same_letters : {a b c d e a' b' c' d' e' : Bool} {t t' : Option Origin} → a ≡ a' → b ≡ b' → c ≡ c' → d ≡ d' → e ≡ e' → t ≡ t'
     → ◌≡◌ {A = Letters} (record { word = a; head = b; verb = c; pronoun = d; spelled = e; tag = t })
     (record { word = a'; head = b'; verb = c'; pronoun = d'; spelled = e'; tag = t' })
 same_letters p q r s t u = cc
@@ -52,7 +67,7 @@ module _ (v : List ℕ) (w h r p e : ℕ)
   pub to_e : drop e v ≡ after_flags v
   to_e = pe ∙ ap (past 0x65) to_p
 
-  pub spelt : (t : Tag) → ltb 0 w ≡ has 0x77 v → ltb w h ≡ has 0x68 (drop w v) → ltb h r ≡ has 0x76 (drop h v)
+  pub spelt : (t : Option Origin) → ltb 0 w ≡ has 0x77 v → ltb w h ≡ has 0x68 (drop w v) → ltb h r ≡ has 0x76 (drop h v)
       → ltb r p ≡ has 0x70 (drop r v) → ltb p e ≡ has 0x65 (drop p v) → t ≡ tag_of (drop e v)
       → record { word = ltb 0 w; head = ltb w h; verb = ltb h r; pronoun = ltb r p; spelled = ltb p e; tag = t } ≡ letters_of v
   unfolding letters_of

@@ -10,8 +10,8 @@ use lib.Dec.{eqb}
 use borrow.Author.Tests.{eq-eqb, ne_eqb}
 use Rattle.runs.specs.Bytes.{index_of, index_after}
 use Rattle.runs.specs.Runs.{cmp}
-use Rattle.runs.specs.declared.Order.{Order}
-use Rattle.runs.specs.declared.Order.TheVariants.{Less, Equal, Greater}
+use Rattle.std.specs.declared.cmp.Ordering.{Ordering}
+use Rattle.std.specs.declared.cmp.Ordering.TheVariants.{Less, Equal, Greater}
 use Rattle.runs.proofs.Ordered.{step, step_less, step_greater, step_same, step_then, by_head, and_then}
 use Rattle.sheet.specs.Forms.{is_form, key, key_of}
 use Rattle.sheet.specs.Lines.{line_at}
@@ -67,7 +67,7 @@ module _ (n p : List ℕ) (i : ℕ) where
 pub head-parts : (n p q : List ℕ) → cmp n (p ++ q) ≡ and_then (headed n p) (cmp (drop (length p) n) q)
 head-parts n [] q = refl
 head-parts [] (y ∷ p) q = refl
-head-parts (x ∷ n) (y ∷ p) q = ap (λ (r : Order). step x y r) (head-parts n p q) ∙ step_then x y _ _
+head-parts (x ∷ n) (y ∷ p) q = ap (λ (r : Ordering). step x y r) (head-parts n p q) ∙ step_then x y _ _
 
 pub head-fits : (n p : List ℕ) → headed n p ≡ Equal → length p ≤ length n
 head-fits n [] e = omega arith
@@ -79,21 +79,21 @@ head-fits (x ∷ n) (y ∷ p) e =
     (λ h f. let z : length p ≤ length n = head-fits n p f in omega arith)
 
 -- the order of the name at the front of t and a question of two parts, where x is what was found of the first
-pub first_decides : (t p q : List ℕ) (x o : Order) → x ≡ headed (spaced t) p → x ≡ o →
+pub first_decides : (t p q : List ℕ) (x o : Ordering) → x ≡ headed (spaced t) p → x ≡ o →
     and_then o (cmp (drop (length p) (spaced t)) q) ≡ cmp (spaced t) (p ++ q)
 first_decides t p q x o e f =
-    sym (head-parts (spaced t) p q ∙ ap (λ (y : Order). and_then y (cmp (drop (length p) (spaced t)) q)) (sym e ∙ f))
+    sym (head-parts (spaced t) p q ∙ ap (λ (y : Ordering). and_then y (cmp (drop (length p) (spaced t)) q)) (sym e ∙ f))
 
 pub first-leaves : (t p q : List ℕ) → headed (spaced t) p ≡ Equal → cmp (spaced (drop (length p) t)) q ≡ cmp (spaced t) (p ++ q)
 first-leaves t p q e =
     ap (λ (m : List ℕ). cmp m q) (sym (spaced-drop (length p) t (head-fits (spaced t) p e))) ∙ first_decides t p q _ Equal refl e
 
 -- the same for a question of one part
-pub name_decides : (t q : List ℕ) (x o : Order) → x ≡ headed (spaced t) q → x ≡ o →
+pub name_decides : (t q : List ℕ) (x o : Ordering) → x ≡ headed (spaced t) q → x ≡ o →
     and_then o (cmp (drop (length q) (spaced t)) []) ≡ cmp (spaced t) q
 name_decides t q x o e f = first_decides t q [] x o e f ∙ ap (λ (m : List ℕ). cmp (spaced t) m) (append-nil q)
 
-pub name-leaves : (t q m : List ℕ) (x : Order) → x ≡ headed (spaced t) q → x ≡ Equal → spaced (drop (length q) t) ≡ m →
+pub name-leaves : (t q m : List ℕ) (x : Ordering) → x ≡ headed (spaced t) q → x ≡ Equal → spaced (drop (length q) t) ≡ m →
     cmp m [] ≡ cmp (spaced t) q
 name-leaves t q m x e f g =
     ap (λ (y : List ℕ). cmp y []) (sym g) ∙ first-leaves t q [] (sym e ∙ f) ∙ ap (λ (y : List ℕ). cmp (spaced t) y) (append-nil q)

@@ -1,5 +1,6 @@
 -- Entries written out and read back: an accepted sheet is its entries written out, and entries that rise make an accepted sheet, which has
 -- them as its lines. What changes a sheet line by line rests on it. Assumes nothing.
+use Rattle.std.specs.Prelude.{Ok}
 use Prim.Native.Nat.{ℕ, zero, suc, ◌+◌, ◌<◌, ◌≤◌}
 use native.Mathlib.Omega.{arith}
 use native.Mathlib.Nat.{add-zero}
@@ -11,13 +12,12 @@ use lib.Seq.{drop-drop, drop-append_seam, take-append_seam}
 use lib.Dec.{ltb, eqb}
 use borrow.Author.Tests.{ltb-true, ltb-false, eq-eqb}
 use Rattle.runs.specs.Runs.{pick, cmp, is_less, begins_with}
-use Rattle.runs.specs.declared.Order.TheVariants.{Less}
+use Rattle.std.specs.declared.cmp.Ordering.TheVariants.{Less}
 use Rattle.text.specs.Names.{forbidden, name_run, holds_forbidden}
 use Rattle.sheet.specs.Limits.{sheet_limit}
 use Rattle.sheet.specs.Forms.{Entry, front, entry_of, written, is_name, is_meant, is_form, key}
 use Rattle.sheet.specs.Lines.{starts_from, starts_of, line_at, lines_of, sheet_text, judged, sheet_check}
 use Rattle.sheet.specs.Steps.{value_end}
-use Rattle.sheet.specs.declared.check.SheetCheck.TheVariants.{Accepted}
 use Rattle.sheet.proofs.Forms.{closed, from_space, from_name, written_from, written-length, form-named, form_meant, name-plain, value-plain, line-bytes, line_long}
 use Rattle.sheet.proofs.Lines.{no_lines, some-line, next_line, written_next}
 use Rattle.sheet.proofs.Stepped.{same_entry}
@@ -99,7 +99,7 @@ module _ (s : List ℕ) where
       let h = first-line n e es g.0 d in
       ap (map (line_at s)) (starts_next n e es g.0) ∙ ap (λ (l : List Entry). line_at s n ∷ l) t ∙ ap (λ (x : Entry). x ∷ es) h
 
-  judged-from : (n : ℕ) (last : List ℕ) (es : List Entry) → Rises last es → drop n s ≡ sheet_text es → judged s last (starts_from true n (sheet_text es)) ≡ Accepted
+  judged-from : (n : ℕ) (last : List ℕ) (es : List Entry) → Rises last es → drop n s ≡ sheet_text es → judged s last (starts_from true n (sheet_text es)) ≡ Ok tt
   judged-from n last [] g d = judged-end s last
   judged-from n last (e ∷ es) g d =
       let h = first-line n e es g.0 d in
@@ -123,11 +123,11 @@ start_at n last (e ∷ es) g (suc i) h =
 pub lines-back : (es : List Entry) → Rises [] es → lines_of (sheet_text es) ≡ es
 lines-back es g = lines_from (sheet_text es) 0 [] es g refl
 
-pub text-accepted : (es : List Entry) → Rises [] es → length (sheet_text es) ≤ sheet_limit → sheet_check (sheet_text es) ≡ Accepted
+pub text-accepted : (es : List Entry) → Rises [] es → length (sheet_text es) ≤ sheet_limit → sheet_check (sheet_text es) ≡ Ok tt
 text-accepted es g h = check_walk (sheet_text es) h ∙ judged-from (sheet_text es) 0 [] es g refl
 
 -- the lines of an accepted sheet rise, and written out they are the sheet
-pub accepted_rises : (s : List ℕ) → sheet_check s ≡ Accepted → Rises [] (lines_of s)
+pub accepted_rises : (s : List ℕ) → sheet_check s ≡ Ok tt → Rises [] (lines_of s)
 accepted_rises s h = go [] (starts_of s) (accepted_up s h)
   where
     go : (last places : List ℕ) → GoesUp s last places → Rises last (map (line_at s) places)
@@ -162,5 +162,5 @@ text-from (suc k) s at last h g = go (ltb at (length s)) refl (text-from k s)
         ∙ ap (λ (x : List ℕ). w ++ x) (rest e (key (line_at s at)) (omega arith) g''.2 ∙ sym d)
         ∙ sym (line-bytes s at g'.0)
 
-pub accepted-text : (s : List ℕ) → sheet_check s ≡ Accepted → sheet_text (lines_of s) ≡ s
+pub accepted-text : (s : List ℕ) → sheet_check s ≡ Ok tt → sheet_text (lines_of s) ≡ s
 accepted-text s h = text-from (length s) s 0 [] (omega arith) (accepted_up s h)

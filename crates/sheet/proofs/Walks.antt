@@ -1,4 +1,5 @@
 -- One step of the walk over the lines: what it reaches, and what is then to come. Every loop over the lines rests on `turn`. Assumes nothing.
+use Rattle.std.specs.Prelude.{Err, None, Ok, Result, Some}
 use Prim.Native.Nat.{ℕ, suc, ◌+◌, ◌-◌, ◌<◌, ◌≤◌}
 use native.Mathlib.Omega.{arith}
 use mathlib.Core.Path.{◌≡◌, refl, sym, ap, subst, ◌∙◌}
@@ -13,17 +14,16 @@ use Rattle.sheet.specs.Forms.{is_form, key, key_of}
 use Rattle.sheet.specs.Lines.{starts_from, line_at, judged, sheet_check}
 use Rattle.sheet.specs.Steps.{name_end, value_end}
 use Rattle.sheet.specs.Walks.{key_before, Standing, starts_ahead, reached}
-use Rattle.sheet.specs.declared.walk.Before.TheVariants.{Nothing, At}
 use Rattle.sheet.specs.declared.walk.Walk.{Walk}
 use Rattle.sheet.specs.declared.walk.Reached.{Reached}
 use Rattle.sheet.specs.declared.walk.Reached.TheVariants.{Form, NotAbove, NoForm, End}
-use Rattle.sheet.specs.declared.check.SheetCheck.{SheetCheck}
-use Rattle.sheet.specs.declared.check.SheetCheck.TheVariants.{Accepted, TooLong, NotAbove as NotAboveAt, NoForm as NoFormAt}
+use Rattle.sheet.specs.declared.check.SheetFault.{SheetFault}
+use Rattle.sheet.specs.declared.check.SheetFault.TheVariants.{TooLong, NotAbove as NotAboveAt, NoForm as NoFormAt}
 use Rattle.sheet.proofs.Forms.{line-fits, line_long, name-text}
 use Rattle.sheet.proofs.Lines.{no_lines, some-line, next_line}
 
 -- what is said of the lines from the walk's place on
-abbrev pub judged_ahead : List ℕ → Walk → SheetCheck
+abbrev pub judged_ahead : List ℕ → Walk → Result (Unit {0}) SheetFault
 judged_ahead s w = judged s (key_before s w.last) (starts_ahead s w)
 
 -- a form is reached: its places, the walk from behind it, and that the lines to come are this one and those from behind it on
@@ -40,7 +40,7 @@ pub record Formed (s : List ℕ) (w : Walk) (letter name-end value-end : ℕ) (n
   pub said : judged_ahead s w ≡ judged_ahead s next
 
 -- a faulty line is reached: nothing behind it is looked at
-pub record Faulty (s : List ℕ) (w : Walk) (x : SheetCheck) : Type 0 where
+pub record Faulty (s : List ℕ) (w : Walk) (x : Result (Unit {0}) SheetFault) : Type 0 where
   pub inside : w.at < length s
   pub starts : starts_ahead s w ≡ w.at ∷ starts_from (eqb (get_or s w.at 0) 0x0A) (suc w.at) (drop (suc w.at) s)
   pub said : judged_ahead s w ≡ x
@@ -48,21 +48,21 @@ pub record Faulty (s : List ℕ) (w : Walk) (x : SheetCheck) : Type 0 where
 -- the end is reached
 pub record Ended (s : List ℕ) (w : Walk) : Type 0 where
   pub starts : starts_ahead s w ≡ []
-  pub said : judged_ahead s w ≡ Accepted
+  pub said : judged_ahead s w ≡ Ok tt
 
 abbrev pub Turn : List ℕ → Walk → Reached → Type 0
 Turn s w End = Ended s w
-Turn s w NoForm = Faulty s w (NoFormAt w.at)
-Turn s w NotAbove = Faulty s w (NotAboveAt w.at)
+Turn s w NoForm = Faulty s w (Err (NoFormAt w.at))
+Turn s w NotAbove = Faulty s w (Err (NotAboveAt w.at))
 Turn s w (Form l e f next) = Formed s w l e f next
 
 -- one line judged
 module _ (s last : List ℕ) (at : ℕ) (rest : List ℕ) where
-  judged-no-form : is_form (drop at s) ≡ false → judged s last (at ∷ rest) ≡ NoFormAt at
+  judged-no-form : is_form (drop at s) ≡ false → judged s last (at ∷ rest) ≡ Err (NoFormAt at)
   unfolding judged
   judged-no-form e = rw e
 
-  judged-not-above : is_form (drop at s) ≡ true → is_less (cmp last (key (line_at s at))) ≡ false → judged s last (at ∷ rest) ≡ NotAboveAt at
+  judged-not-above : is_form (drop at s) ≡ true → is_less (cmp last (key (line_at s at))) ≡ false → judged s last (at ∷ rest) ≡ Err (NotAboveAt at)
   unfolding judged
   judged-not-above e f = rw (e, f)
 
@@ -70,7 +70,7 @@ module _ (s last : List ℕ) (at : ℕ) (rest : List ℕ) where
   unfolding judged
   judged_on e f = rw (e, f)
 
-pub judged-end : (s last : List ℕ) → judged s last [] ≡ Accepted
+pub judged-end : (s last : List ℕ) → judged s last [] ≡ Ok tt
 unfolding judged
 judged-end s last = refl
 
@@ -82,13 +82,13 @@ module _ (s : List ℕ) (w : Walk) where
       subst (Turn s w) (sym q)
       (by (leb (length s) w.at) (is_form (drop w.at s)) (is_less (cmp (key_before s w.last) (key (line_at s w.at)))) refl refl refl)
     where
-      faulty : (x : SheetCheck) → w.at < length s → ((rest : List ℕ) → judged s (key_before s w.last) (w.at ∷ rest) ≡ x) → Faulty s w x
+      faulty : (x : Result (Unit {0}) SheetFault) → w.at < length s → ((rest : List ℕ) → judged s (key_before s w.last) (w.at ∷ rest) ≡ x) → Faulty s w x
       faulty x h k =
           let l = some-line s w.at h in
           record { inside = h; starts = l; said = ap (judged s (key_before s w.last)) l ∙ k _ }
 
       by : (b c d : Bool) → leb (length s) w.at ≡ b → is_form (drop w.at s) ≡ c → is_less (cmp (key_before s w.last) (key (line_at s w.at))) ≡ d
-          → Turn s w (pick b End (pick c (pick d (Form (line_at s w.at).letter (name_end s w.at) (value_end s w.at) (record { at = value_end s w.at + 3; last = At w.at })) NotAbove) NoForm))
+          → Turn s w (pick b End (pick c (pick d (Form (line_at s w.at).letter (name_end s w.at) (value_end s w.at) (record { at = value_end s w.at + 3; last = Some w.at })) NotAbove) NoForm))
       by true c d p q r =
           let l = no_lines s w.at (leb-true _ _ p) in
           record { starts = l; said = ap (judged s (key_before s w.last)) l ∙ judged-end s _ }
@@ -106,8 +106,8 @@ module _ (s : List ℕ) (w : Walk) where
             starts = l;
             said = ap (judged s (key_before s w.last)) l ∙ judged_on s _ w.at _ q r;
           }
-      by false true false p q r = faulty (NotAboveAt w.at) (leb-false _ _ p) (λ rest. judged-not-above s _ w.at rest q r)
-      by false false d p q r = faulty (NoFormAt w.at) (leb-false _ _ p) (λ rest. judged-no-form s _ w.at rest q)
+      by false true false p q r = faulty (Err (NotAboveAt w.at)) (leb-false _ _ p) (λ rest. judged-not-above s _ w.at rest q r)
+      by false false d p q r = faulty (Err (NoFormAt w.at)) (leb-false _ _ p) (λ rest. judged-no-form s _ w.at rest q)
 
 -- what a step reaches, test by test
 module _ (s : List ℕ) (w : Walk) where
@@ -125,7 +125,7 @@ module _ (s : List ℕ) (w : Walk) where
 
   pub reached-form : w.at < length s → is_form (drop w.at s) ≡ true → (l n v next : ℕ)
       → l ≡ (line_at s w.at).letter → n ≡ name_end s w.at → v ≡ value_end s w.at → next ≡ value_end s w.at + 3
-      → is_less (cmp (key_before s w.last) (key (line_at s w.at))) ≡ true → Form l n v (record { at = next; last = At w.at }) ≡ reached s w
+      → is_less (cmp (key_before s w.last) (key (line_at s w.at))) ≡ true → Form l n v (record { at = next; last = Some w.at }) ≡ reached s w
   unfolding reached
   reached-form h e l n v next p q r t f = rw (lt-leb _ _ h, e, f, p, q, r, t)
 
@@ -138,10 +138,10 @@ key-told s at h l n p q =
 
 -- where the walk begins
 abbrev pub at_first : Walk
-at_first = record { at = 0; last = Nothing }
+at_first = record { at = 0; last = None }
 
 module _ (s : List ℕ) where
-  pub check_long : sheet_limit < length s → TooLong ≡ sheet_check s
+  pub check_long : sheet_limit < length s → (Err TooLong) ≡ sheet_check s
   unfolding sheet_check
   check_long h = rw (lt-ltb _ _ h)
 

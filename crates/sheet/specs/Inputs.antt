@@ -1,58 +1,50 @@
 -- What is said of a word and a sheet together (document 01, "What an entry hands back"): accepted, or refused by the lowest number that
 -- applies. Assumes nothing.
-use Rattle.std.specs.Prelude.{ℕ, not, List, [], ◌∷◌, ◌++◌, length, ltb}
+use Rattle.std.specs.Prelude.{ℕ, not, List, [], ◌∷◌, ◌++◌, length, ltb, Err, Ok, Result}
 use Rattle.refusals.specs.Refusals.{places, numbers_of, Before, cause_if, lowest_numbers_of}
 use Rattle.refusals.specs.declared.Refusal.{Refusal}
-use Rattle.refusals.specs.declared.Refusal.TheVariants.{WordTooLong, WordNotUtf8, WordForbidden, SheetTooLong, SheetNoForm, SheetNotAbove}
+use Rattle.refusals.specs.declared.Refusal.TheVariants.{WordTooLong, WordNotUtf8, WordForbidden, SheetTooLong}
 use Rattle.text.specs.Utf8.{is_utf8}
 use Rattle.text.specs.Names.{holds_forbidden}
 use Rattle.text.specs.Word.{word_limit, word_check}
-use Rattle.text.specs.declared.word.WordCheck.{WordCheck}
-use Rattle.text.specs.declared.word.WordCheck.TheVariants as words
+use Rattle.text.specs.declared.word.WordFault.{WordFault}
+use Rattle.text.specs.Word as words
 use Rattle.sheet.specs.Limits.{sheet_limit}
 use Rattle.sheet.specs.Lines.{starts_of, judged, sheet_check}
-use Rattle.sheet.specs.declared.check.SheetCheck.{SheetCheck}
-use Rattle.sheet.specs.declared.check.SheetCheck.TheVariants as sheets
-use Rattle.sheet.specs.declared.inputs.Inputs.{Inputs}
-use Rattle.sheet.specs.declared.inputs.Inputs.TheVariants.{Accepted, Refused}
+use Rattle.sheet.specs.declared.check.SheetFault.{SheetFault}
+use Rattle.sheet.specs.Lines as sheets
 
 -- what is said of a word alone, and of a sheet alone
-abbrev pub of_word : WordCheck → Inputs
-of_word words.Accepted = Accepted
-of_word words.TooLong = Refused WordTooLong
-of_word words.NotUtf8 = Refused WordNotUtf8
-of_word words.Forbidden = Refused WordForbidden
+abbrev pub of_word : Result (Unit {0}) WordFault → Result (Unit {0}) Refusal
+of_word (Ok _) = Ok tt
+of_word (Err fault) = Err (words.refusal_of fault)
 
-abbrev pub by_sheet : SheetCheck → Inputs
-by_sheet sheets.Accepted = Accepted
-by_sheet sheets.TooLong = Refused SheetTooLong
-by_sheet (sheets.NoForm at) = Refused (SheetNoForm at)
-by_sheet (sheets.NotAbove at) = Refused (SheetNotAbove at)
+abbrev pub by_sheet : Result (Unit {0}) SheetFault → Result (Unit {0}) Refusal
+by_sheet (Ok _) = Ok tt
+by_sheet (Err fault) = Err (sheets.refusal_of fault)
 
 -- what is said of one, and where that is accepted of the other
-abbrev pub or_else : Inputs → Inputs → Inputs
-or_else Accepted i = i
-or_else (Refused r) i = Refused r
+abbrev pub or_else : Result (Unit {0}) Refusal → Result (Unit {0}) Refusal → Result (Unit {0}) Refusal
+or_else (Ok _) i = i
+or_else (Err r) i = Err r
 
 -- what is said of word and sheet: every number of a word is lower than those of a sheet
-abbrev pub by_word_then : WordCheck → Inputs → Inputs
+abbrev pub by_word_then : Result (Unit {0}) WordFault → Result (Unit {0}) Refusal → Result (Unit {0}) Refusal
 by_word_then c i = or_else (of_word c) i
 
-unfoldable pub inputs_of : List ℕ → List ℕ → Inputs
+unfoldable pub inputs_of : List ℕ → List ℕ → Result (Unit {0}) Refusal
 inputs_of word sheet = by_word_then (word_check word) (by_sheet (sheet_check sheet))
 
 -- the numbers that come with what is said: none for accepted ones
-abbrev pub numbers_given : Inputs → List ℕ
-numbers_given Accepted = []
-numbers_given (Refused r) = numbers_of r
+abbrev pub numbers_given : Result (Unit {0}) Refusal → List ℕ
+numbers_given (Ok _) = []
+numbers_given (Err r) = numbers_of r
 
 -- every cause of document 01's table that applies to a word and a sheet: each is tested by itself, and of a sheet's faulty lines the
 -- first decides
-abbrev pub fault_of : SheetCheck → List Refusal
-fault_of sheets.Accepted = []
-fault_of sheets.TooLong = SheetTooLong ∷ []
-fault_of (sheets.NoForm at) = SheetNoForm at ∷ []
-fault_of (sheets.NotAbove at) = SheetNotAbove at ∷ []
+abbrev pub fault_of : Result (Unit {0}) SheetFault → List Refusal
+fault_of (Ok _) = []
+fault_of (Err fault) = sheets.refusal_of fault ∷ []
 
 abbrev pub causes : List ℕ → List ℕ → List Refusal
 causes word sheet =

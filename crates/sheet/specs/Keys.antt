@@ -3,15 +3,15 @@
 use Rattle.std.specs.Prelude.{ℕ, List, [], ◌∷◌, take, ltb}
 use Rattle.runs.specs.Bytes.{index_of}
 use Rattle.runs.specs.Runs.{pick}
-use Rattle.runs.specs.declared.Order.{Order}
-use Rattle.runs.specs.declared.Order.TheVariants.{Less, Equal, Greater}
+use Rattle.std.specs.declared.cmp.Ordering.{Ordering}
+use Rattle.std.specs.declared.cmp.Ordering.TheVariants.{Less, Equal, Greater}
 
 -- the bytes before the first space
 abbrev pub spaced : List ℕ → List ℕ
 spaced t = take (index_of 0x20 t) t
 
 -- how name stands to all names that begin with head: equal if it is one of them
-abbrev pub headed : List ℕ → List ℕ → Order
+abbrev pub headed : List ℕ → List ℕ → Ordering
 headed name [] = Equal
 headed [] (y ∷ head) = Less
 headed (x ∷ name) (y ∷ head) = pick (ltb x y) Less (pick (ltb y x) Greater (headed name head))

@@ -1,9 +1,9 @@
 -- The letters of a `w` line (document 01, "The sheet"), read in their order: w contained, h headword, v verb, p pronoun,
 -- e its entry spells [root+ई], then one of t b d a, the origin tag. Assumes nothing.
-use Rattle.std.specs.Prelude.{ℕ, Bool, true, false, not, ◌&&◌, ◌||◌, List, [], ◌∷◌, drop}
+use Rattle.std.specs.Prelude.{ℕ, Bool, true, false, not, ◌&&◌, ◌||◌, List, [], ◌∷◌, drop, Option, Some, None, is_some}
 use Rattle.runs.specs.Runs.{pick, begins_with, same_text}
-use Rattle.sheet.specs.declared.letters.Tag.{Tag}
-use Rattle.sheet.specs.declared.letters.Tag.TheVariants.{Untagged, Tatsam, Tadbhav, Deshaj, Aagantuk}
+use Rattle.tables.specs.declared.origins.Origin.{Origin}
+use Rattle.tables.specs.declared.origins.Origin.TheVariants.{Tatsam, Tadbhav, Deshaj, Aagantuk}
 use Rattle.sheet.specs.declared.letters.Letters.{Letters}
 
 -- the letter c stands at the front
@@ -15,20 +15,16 @@ abbrev pub past : ℕ → List ℕ → List ℕ
 past c s = pick (has c s) (drop 1 s) s
 
 -- the tag that stands at the front: t, b, d or a
-unfoldable pub tag_of : List ℕ → Tag
+unfoldable pub tag_of : List ℕ → Option Origin
 tag_of s =
-    pick (has 0x74 s) Tatsam
-    (pick (has 0x62 s) Tadbhav
-    (pick (has 0x64 s) Deshaj
-    (pick (has 0x61 s) Aagantuk
-    Untagged)))
+    pick (has 0x74 s) (Some Tatsam)
+    (pick (has 0x62 s) (Some Tadbhav)
+    (pick (has 0x64 s) (Some Deshaj)
+    (pick (has 0x61 s) (Some Aagantuk)
+    None)))
 
-abbrev pub is_tagged : Tag → Bool
-is_tagged Untagged = false
-is_tagged Tatsam = true
-is_tagged Tadbhav = true
-is_tagged Deshaj = true
-is_tagged Aagantuk = true
+abbrev pub is_tagged : Option Origin → Bool
+is_tagged tag = is_some tag
 
 -- what is left of s after w, h, v, p and e, each where it stands next
 abbrev pub after_flags : List ℕ → List ℕ
@@ -62,4 +58,4 @@ is_letters s = closes (after_flags s) && well_kept (letters_of s)
 
 -- the letters of a string without a line: none
 abbrev pub no_letters : Letters
-no_letters = record { word = false; head = false; verb = false; pronoun = false; spelled = false; tag = Untagged }
+no_letters = record { word = false; head = false; verb = false; pronoun = false; spelled = false; tag = None }

@@ -1,11 +1,19 @@
 -- A sheet's lines and what is said of the sheet (document 01, "The sheet" and the table of refusals): numbers 4, 5 and 6.
 -- Assumes nothing.
-use Rattle.std.specs.Prelude.{ℕ, suc, Bool, true, false, List, [], ◌∷◌, ◌++◌, map, length, drop, eqb, ltb}
+use Rattle.std.specs.Prelude.{ℕ, suc, Bool, true, false, List, [], ◌∷◌, ◌++◌, map, length, drop, eqb, ltb, Err, Ok, Result}
 use Rattle.runs.specs.Runs.{pick, cmp, is_less}
+use Rattle.refusals.specs.declared.Refusal.{Refusal}
+use Rattle.refusals.specs.declared.Refusal.TheVariants.{SheetTooLong, SheetNoForm, SheetNotAbove}
 use Rattle.sheet.specs.Limits.{sheet_limit}
 use Rattle.sheet.specs.Forms.{Entry, entry_of, written, is_form, key}
-use Rattle.sheet.specs.declared.check.SheetCheck.{SheetCheck}
-use Rattle.sheet.specs.declared.check.SheetCheck.TheVariants.{Accepted, TooLong, NoForm, NotAbove}
+use Rattle.sheet.specs.declared.check.SheetFault.{SheetFault}
+use Rattle.sheet.specs.declared.check.SheetFault.TheVariants.{TooLong, NoForm, NotAbove}
+
+-- the refusal that a fault of a sheet is
+abbrev pub refusal_of : SheetFault → Refusal
+refusal_of TooLong = SheetTooLong
+refusal_of (NoForm at) = SheetNoForm at
+refusal_of (NotAbove at) = SheetNotAbove at
 
 -- the place n where a line begins, before the places of the lines that follow
 abbrev pub lead : Bool → ℕ → List ℕ → List ℕ
@@ -35,15 +43,15 @@ sheet_text [] = []
 sheet_text (e ∷ es) = written e ++ sheet_text es
 
 -- the first faulty line among those that begin at the places given, after a line with the key `last`: no form, or a form not above
-unfoldable pub judged : List ℕ → List ℕ → List ℕ → SheetCheck
-judged s last [] = Accepted
+unfoldable pub judged : List ℕ → List ℕ → List ℕ → Result (Unit {0}) SheetFault
+judged s last [] = Ok tt
 judged s last (at ∷ rest) =
     pick (is_form (drop at s))
     (pick (is_less (cmp last (key (line_at s at))))
     (judged s (key (line_at s at)) rest)
-    (NotAbove at))
-    (NoForm at)
+    (Err (NotAbove at)))
+    (Err (NoForm at))
 
 -- what is said of the sheet s; no key is below the empty one, so the first line is above what stands before it
-unfoldable pub sheet_check : List ℕ → SheetCheck
-sheet_check s = pick (ltb sheet_limit (length s)) TooLong (judged s [] (starts_of s))
+unfoldable pub sheet_check : List ℕ → Result (Unit {0}) SheetFault
+sheet_check s = pick (ltb sheet_limit (length s)) (Err TooLong) (judged s [] (starts_of s))

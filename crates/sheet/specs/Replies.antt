@@ -1,12 +1,11 @@
 -- What a sheet replies to a question (document 01, "The sheet"): each by exact bytes, and a string without a line is unknown.
 -- Assumes nothing.
-use Rattle.std.specs.Prelude.{ℕ, ◌≡◌, List, [], ◌∷◌}
+use Rattle.std.specs.Prelude.{ℕ, ◌≡◌, List, [], ◌∷◌, Ok}
 use Rattle.runs.specs.Runs.{pick, same_text}
 use Rattle.sheet.specs.Letters.{letters_of, no_letters}
 use Rattle.sheet.specs.Forms.{Entry, key, key_of}
 use Rattle.sheet.specs.Lines.{lines_of, starts_of, sheet_check}
 use Rattle.sheet.specs.declared.letters.Letters.{Letters}
-use Rattle.sheet.specs.declared.check.SheetCheck.TheVariants.{Accepted}
 
 -- a reply: the value of the question's line, or that there is none
 pub data Reply : Type 0 where
@@ -45,5 +44,5 @@ letters_by ask name = letters_told (ask 0x77 name)
 
 -- starts is what stands for the accepted sheet s in a search: the first byte of each of its lines
 pub record Indexed (s starts : List ℕ) : Type 0 where
-  pub accepted : sheet_check s ≡ Accepted
+  pub accepted : sheet_check s ≡ Ok tt
   pub listed : starts ≡ starts_of s

@@ -1,24 +1,22 @@
 -- The walk over a sheet's lines: what a step reaches at a place, after a last line. Assumes nothing.
-use Rattle.std.specs.Prelude.{ℕ, ◌+◌, ◌≡◌, true, List, [], length, drop, leb}
+use Rattle.std.specs.Prelude.{ℕ, ◌+◌, ◌≡◌, true, List, [], length, drop, leb, None, Option, Some}
 use Rattle.runs.specs.Runs.{pick, cmp, is_less}
 use Rattle.sheet.specs.Forms.{is_form, key}
 use Rattle.sheet.specs.Lines.{line_at, starts_from}
 use Rattle.sheet.specs.Steps.{name_end, value_end}
-use Rattle.sheet.specs.declared.walk.Before.{Before}
-use Rattle.sheet.specs.declared.walk.Before.TheVariants.{Nothing, At}
 use Rattle.sheet.specs.declared.walk.Walk.{Walk}
 use Rattle.sheet.specs.declared.walk.Reached.{Reached}
 use Rattle.sheet.specs.declared.walk.Reached.TheVariants.{Form, NotAbove, NoForm, End}
 
 -- the key of the line before; no key is below the empty one, so the first line is above what stands before it
-abbrev pub key_before : List ℕ → Before → List ℕ
-key_before s Nothing = []
-key_before s (At at) = key (line_at s at)
+abbrev pub key_before : List ℕ → Option ℕ → List ℕ
+key_before s None = []
+key_before s (Some at) = key (line_at s at)
 
 -- a form stands at the line before
-abbrev pub Standing : List ℕ → Before → Type 0
-Standing s Nothing = Unit {0}
-Standing s (At at) = is_form (drop at s) ≡ true
+abbrev pub Standing : List ℕ → Option ℕ → Type 0
+Standing s None = Unit {0}
+Standing s (Some at) = is_form (drop at s) ≡ true
 
 -- the starts of the lines from the walk's place on
 abbrev pub starts_ahead : List ℕ → Walk → List ℕ
@@ -30,6 +28,6 @@ reached s w =
     pick (leb (length s) w.at) End
     (pick (is_form (drop w.at s))
     (pick (is_less (cmp (key_before s w.last) (key (line_at s w.at))))
-    (Form (line_at s w.at).letter (name_end s w.at) (value_end s w.at) (record { at = value_end s w.at + 3; last = At w.at }))
+    (Form (line_at s w.at).letter (name_end s w.at) (value_end s w.at) (record { at = value_end s w.at + 3; last = Some w.at }))
     NotAbove)
     NoForm)

@@ -3,64 +3,64 @@
 // compare by these functions alone.
 ghost use Rattle.std.specs.Prelude.{◌≡◌, true, ◌++◌, drop};
 ghost use Rattle.runs.specs.Runs.{cmp};
-ghost use Rattle.runs.specs.declared.Order.TheVariants.{Equal};
+ghost use Rattle.std.specs.declared.cmp.Ordering.TheVariants.{Equal};
 ghost use Rattle.sheet.specs.Forms.{is_form, key, key_of};
 ghost use Rattle.sheet.specs.Lines.{line_at};
 ghost use Rattle.sheet.specs.Keys.{spaced, headed};
 
-use runs::Order;
+use std::cmp::Ordering;
 
 // How the name at the front of `t`, up to its space, stands to all names that begin with `p`: equal if it is one of them.
 // It takes any two runs.
-fn along(t: &[u8], p: &[u8]) -> Order
+fn along(t: &[u8], p: &[u8]) -> Ordering
     ensures { result ≡ headed (spaced t.now) p.now }
 {
     let mut i = 0;
     while i < p.len() {
         if t.len() <= i {
-            return Order::Less;
+            return Ordering::Less;
         }
         let b = t[i];
         let y = p[i];
         if b == b' ' {
-            return Order::Less;
+            return Ordering::Less;
         }
         if b < y {
-            return Order::Less;
+            return Ordering::Less;
         }
         if y < b {
-            return Order::Greater;
+            return Ordering::Greater;
         }
         i += 1;
     }
-    Order::Equal
+    Ordering::Equal
 }
 
 // The order of the name at the front of `t`, up to its space, and `q`.
 // It takes any two runs.
-fn name_order(t: &[u8], q: &[u8]) -> Order
+fn name_order(t: &[u8], q: &[u8]) -> Ordering
     ensures { result ≡ cmp (spaced t.now) q.now }
 {
     let o = along(t, q);
     match o {
-        Order::Less => Order::Less,
-        Order::Greater => Order::Greater,
-        Order::Equal => {
+        Ordering::Less => Ordering::Less,
+        Ordering::Greater => Ordering::Greater,
+        Ordering::Equal => {
             let n = q.len();
             if t.len() <= n {
-                return Order::Equal;
+                return Ordering::Equal;
             }
             if t[n] == b' ' {
-                return Order::Equal;
+                return Ordering::Equal;
             }
-            Order::Greater
+            Ordering::Greater
         }
     }
 }
 
 // The order of the name at the front of `t`, up to its space, and the name that `p` and then `q` make, where the name is known to begin
 // with `p`: only what follows is compared.
-fn rest_order(t: &[u8], p: &[u8], q: &[u8]) -> Order
+fn rest_order(t: &[u8], p: &[u8], q: &[u8]) -> Ordering
     requires { headed (spaced t.now) p.now ≡ Equal }
     ensures { result ≡ cmp (spaced t.now) (p.now ++ q.now) }
 {
@@ -70,29 +70,29 @@ fn rest_order(t: &[u8], p: &[u8], q: &[u8]) -> Order
 
 // The order of the name at the front of `t`, up to its space, and the name that `p` and then `q` make.
 // It takes any three runs.
-fn parts_order(t: &[u8], p: &[u8], q: &[u8]) -> Order
+fn parts_order(t: &[u8], p: &[u8], q: &[u8]) -> Ordering
     ensures { result ≡ cmp (spaced t.now) (p.now ++ q.now) }
 {
     let o = along(t, p);
     match o {
-        Order::Less => Order::Less,
-        Order::Greater => Order::Greater,
-        Order::Equal => rest_order(t, p, q),
+        Ordering::Less => Ordering::Less,
+        Ordering::Greater => Ordering::Greater,
+        Ordering::Equal => rest_order(t, p, q),
     }
 }
 
 // The order of the line that begins at `at` and the question (letter, the name that `p` and then `q` make).
 // A form stands there.
-pub fn line_order(sheet: &[u8], at: usize, letter: u8, p: &[u8], q: &[u8]) -> Order
+pub fn line_order(sheet: &[u8], at: usize, letter: u8, p: &[u8], q: &[u8]) -> Ordering
     requires { is_form (drop at sheet.now) ≡ true }
     ensures { result ≡ cmp (key (line_at sheet.now at)) (key_of letter (p.now ++ q.now)) }
 {
     let first = sheet[at + 1];
     if first < letter {
-        return Order::Less;
+        return Ordering::Less;
     }
     if letter < first {
-        return Order::Greater;
+        return Ordering::Greater;
     }
     let from = at + 3;
     parts_order(&sheet[from..], p, q)
@@ -100,16 +100,16 @@ pub fn line_order(sheet: &[u8], at: usize, letter: u8, p: &[u8], q: &[u8]) -> Or
 
 // How the line that begins at `at` stands to all lines of the letter whose names begin with `head`: equal if it is one of them.
 // A form stands there.
-pub fn head_order(sheet: &[u8], at: usize, letter: u8, head: &[u8]) -> Order
+pub fn head_order(sheet: &[u8], at: usize, letter: u8, head: &[u8]) -> Ordering
     requires { is_form (drop at sheet.now) ≡ true }
     ensures { result ≡ headed (key (line_at sheet.now at)) (key_of letter head.now) }
 {
     let own = sheet[at + 1];
     if own < letter {
-        return Order::Less;
+        return Ordering::Less;
     }
     if letter < own {
-        return Order::Greater;
+        return Ordering::Greater;
     }
     let start = at + 3;
     along(&sheet[start..], head)
@@ -117,7 +117,7 @@ pub fn head_order(sheet: &[u8], at: usize, letter: u8, head: &[u8]) -> Order
 
 // The order of the line that begins at `at` and the question, where the line is one of the letter whose name begins with `p`.
 // A form stands there.
-pub fn order_behind(sheet: &[u8], at: usize, letter: u8, p: &[u8], q: &[u8]) -> Order
+pub fn order_behind(sheet: &[u8], at: usize, letter: u8, p: &[u8], q: &[u8]) -> Ordering
     requires { (is_form (drop at sheet.now) ≡ true) × (headed (key (line_at sheet.now at)) (key_of letter p.now) ≡ Equal) }
     ensures { result ≡ cmp (key (line_at sheet.now at)) (key_of letter (p.now ++ q.now)) }
 {

@@ -1,26 +1,18 @@
 // The letters of a `w` line.
 ghost use Rattle.std.specs.Prelude.{◌≡◌, ◌+◌, ◌≤◌, length, drop, ltb};
-ghost use Rattle.sheet.specs.Letters.{has, past, tag_of, is_tagged, letters_of, closes, is_letters};
+ghost use Rattle.sheet.specs.Letters.{has, past, tag_of, letters_of, closes, is_letters};
 
-// The origin tag of a headword.
-#[derive(Clone, Copy)]
-pub enum Tag {
-    Untagged,
-    Tatsam,
-    Tadbhav,
-    Deshaj,
-    Aagantuk,
-}
+use tables::origins::Origin;
 
 // What a `w` line says of its name.
-#[derive(Clone, Copy)]
+#[derive(Clone, Copy, Debug, PartialEq, Eq)]
 pub struct Letters {
     pub word: bool,
     pub head: bool,
     pub verb: bool,
     pub pronoun: bool,
     pub spelled: bool,
-    pub tag: Tag,
+    pub tag: Option<Origin>,
 }
 
 // The place after the letter c where it stands at i, else i.
@@ -28,46 +20,22 @@ fn skip(v: &[u8], i: usize, c: u8) -> usize
     requires { i ≤ length v.now }
     ensures { (drop result v.now ≡ past c (drop i v.now)) × (ltb i result ≡ has c (drop i v.now)) × (i ≤ result) × (result ≤ length v.now) }
 {
-    if i < v.len() {
-        if v[i] == c {
-            return i + 1;
-        }
-    }
-    i
+    if i < v.len() && v[i] == c { i + 1 } else { i }
 }
 
-// The tag whose letter stands at i.
-fn tag_at(v: &[u8], i: usize) -> Tag
+// The tag whose letter stands at i, if one does.
+fn tag_at(v: &[u8], i: usize) -> Option<Origin>
     ensures { result ≡ tag_of (drop i v.now) }
 {
-    if i < v.len() {
-        let b = v[i];
-        if b == b't' {
-            return Tag::Tatsam;
-        }
-        if b == b'b' {
-            return Tag::Tadbhav;
-        }
-        if b == b'd' {
-            return Tag::Deshaj;
-        }
-        if b == b'a' {
-            return Tag::Aagantuk;
-        }
+    if v.len() <= i {
+        return None;
     }
-    Tag::Untagged
-}
-
-// Whether a tag is one.
-pub fn is_tagged(tag: Tag) -> bool
-    ensures { result ≡ is_tagged tag }
-{
-    match tag {
-        Tag::Untagged => false,
-        Tag::Tatsam => true,
-        Tag::Tadbhav => true,
-        Tag::Deshaj => true,
-        Tag::Aagantuk => true,
+    match v[i] {
+        b't' => Some(Origin::Tatsam),
+        b'b' => Some(Origin::Tadbhav),
+        b'd' => Some(Origin::Deshaj),
+        b'a' => Some(Origin::Aagantuk),
+        _ => None,
     }
 }
 
@@ -96,8 +64,7 @@ fn closes_at(v: &[u8], i: usize) -> bool
     requires { i ≤ length v.now }
     ensures { result ≡ closes (drop i v.now) }
 {
-    let tag = tag_at(v, i);
-    if is_tagged(tag) {
+    if tag_at(v, i).is_some() {
         return v.len() - i <= 1;
     }
     v.len() - i == 0

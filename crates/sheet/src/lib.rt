@@ -2,7 +2,6 @@
 #![tactic(auto)]
 
 pub mod check;
-pub mod inputs;
 pub mod keys;
 pub mod letters;
 pub mod limits;

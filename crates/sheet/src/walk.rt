@@ -7,20 +7,13 @@ ghost use Rattle.sheet.specs.Walks.{key_before, Standing, reached};
 
 use crate::keys::line_order;
 use crate::line::{Cursor, Line};
-use runs::Order;
-
-// The line before: none before the first, else the place at which it begins.
-#[derive(Clone, Copy)]
-pub enum Before {
-    Nothing,
-    At(usize),
-}
+use std::cmp::Ordering;
 
 // A place in the sheet at which a line begins, and the last line that the next one must be above.
 #[derive(Clone, Copy)]
 pub struct Walk {
     pub at: usize,
-    pub last: Before,
+    pub last: Option<usize>,
 }
 
 // What a step reaches: a form above the last, with its first letter, the ends of its name and of its value, and the walk from behind it; a
@@ -39,18 +32,18 @@ pub enum Reached {
 }
 
 // Whether the line before, if there is one, stands below the key of this letter and name.
-fn is_above(s: &[u8], last: Before, letter: u8, name: &[u8]) -> bool
+fn is_above(s: &[u8], last: Option<usize>, letter: u8, name: &[u8]) -> bool
     requires { Standing s.now last }
     ensures { result ≡ is_less (cmp (key_before s.now last) (key_of letter name.now)) }
 {
-    let Before::At(at) = last else {
+    let Some(at) = last else {
         return true;
     };
     let order = line_order(s, at, letter, name, b"");
     match order {
-        Order::Less => true,
-        Order::Equal => false,
-        Order::Greater => false,
+        Ordering::Less => true,
+        Ordering::Equal => false,
+        Ordering::Greater => false,
     }
 }
 
@@ -83,7 +76,7 @@ impl Walk {
                     value_end,
                     next: Walk {
                         at: next.at,
-                        last: Before::At(at),
+                        last: Some(at),
                     },
                 }
             }

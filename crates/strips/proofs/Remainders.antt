@@ -1,5 +1,6 @@
 -- What a remainder is: a front part of the piece that the suffix makes whole again, and UTF-8 where piece and suffix are; and the
 -- same of what a prefix form leaves. Cited by every crate that strips. Assumes nothing.
+use Rattle.std.specs.Prelude.{None, Some, IfSome}
 use mathlib.Core.Path.{◌≡◌, refl, ap, ap₂, sym, ◌∙◌}
 use mathlib.Core.Bool.{Bool, true, false, ◌&&◌}
 use mathlib.Core.Logic.{⊎_elim}
@@ -18,7 +19,6 @@ use Rattle.tables.proofs.Compared.{ends_is}
 use Rattle.text.specs.Utf8.{is_utf8}
 use Rattle.text.specs.Characters.{chars}
 use Rattle.strips.specs.declared.suffix.Rests.{Rests}
-use Rattle.strips.specs.declared.prefix.Rest.TheVariants.{Nothing, From}
 use Rattle.strips.specs.Suffix.{first_length, first_character, sheds, is_long, without, plain, shared, remainders, plain_length, shared_length, rests_of, fronts, Marked, marked, marked_fronts}
 use Rattle.strips.specs.Prefix.{least_after, after, leaves, prefix_remainder, rest_of, behind}
 use Rattle.strips.proofs.Returns.{begins-length}
@@ -88,12 +88,7 @@ shared_nowhere piece suffix h = rw h (go (sheds piece suffix))
 
 -- what the code gives, by the two tests
 abbrev rests : List ℕ → List ℕ → Bool → Bool → Rests
-rests piece suffix a b =
-    pick a
-    (pick b
-    (record { count = 2; plain = plain_length piece suffix; shared = shared_length piece suffix })
-    (record { count = 1; plain = plain_length piece suffix; shared = 0 }))
-    (record { count = 0; plain = 0; shared = 0 })
+rests piece suffix a b = record { plain = pick a (Some (plain_length piece suffix)) None; shared = pick (a && b) (Some (shared_length piece suffix)) None }
 
 -- the lengths that the code gives say the remainders
 pub rests_say : (piece suffix : List ℕ) → fronts piece (rests_of piece suffix) ≡ remainders piece suffix
@@ -135,9 +130,8 @@ marks_off piece suffix =
 
 -- they lie inside the piece, so that it can be cut by them
 pub record Inside (piece : List ℕ) (r : Rests) : Type 0 where
-  pub few : r.count ≤ 2
-  pub plain_in : r.plain ≤ length piece
-  pub shared_in : r.shared ≤ length piece
+  pub plain_in : IfSome r.plain (λ n. n ≤ length piece)
+  pub shared_in : IfSome r.shared (λ n. n ≤ length piece)
 
 pub rests_inside : (piece suffix : List ℕ) → Inside piece (rests_of piece suffix)
 unfolding rests_of
@@ -146,9 +140,18 @@ rests_inside piece suffix = go (sheds piece suffix) (is_long suffix) refl refl
     go : (a b : Bool) → sheds piece suffix ≡ a → is_long suffix ≡ b → Inside piece (rests piece suffix a b)
     go true true e h =
         let l = shared_less piece suffix e h in
-        record { few = omega arith; plain_in = omega arith; shared_in = omega arith }
-    go true false e h = record { few = omega arith; plain_in = omega arith; shared_in = omega arith }
-    go false b e h = record { few = omega arith; plain_in = omega arith; shared_in = omega arith }
+        record { plain_in = omega arith; shared_in = omega arith }
+    go true false e h = record { plain_in = omega arith; shared_in = tt }
+    go false b e h = record { plain_in = tt; shared_in = tt }
+
+-- where there is no plain one, there is no shared one
+pub shared_with_plain : (piece suffix : List ℕ) → (rests_of piece suffix).plain ≡ None → (rests_of piece suffix).shared ≡ None
+unfolding rests_of
+shared_with_plain piece suffix = go (sheds piece suffix) (is_long suffix)
+  where
+    go : (a b : Bool) → (rests piece suffix a b).plain ≡ None → (rests piece suffix a b).shared ≡ None
+    go true b e = let z : ◌≡◌ {A = ℕ} 0 1 = cc in absurd (omega arith)
+    go false b e = refl
 
 -- UTF-8 pieces and suffixes leave UTF-8
 pub plain_utf8 : (piece suffix : List ℕ) → sheds piece suffix ≡ true → is_utf8 piece ≡ true → is_utf8 suffix ≡ true
@@ -198,15 +201,15 @@ pub rest-says : (piece form : List ℕ) → behind piece (rest_of piece form) �
 unfolding rest_of prefix_remainder
 rest-says piece form = go (leaves piece form)
   where
-    go : (b : Bool) → behind piece (pick b (From (length form)) Nothing) ≡ pick b (after piece form ∷ []) []
+    go : (b : Bool) → behind piece (pick b (Some (length form)) None) ≡ pick b (after piece form ∷ []) []
     go true = refl
     go false = refl
 
-pub rest-inside : (piece form : List ℕ) (n : ℕ) → rest_of piece form ≡ From n → n ≤ length piece
+pub rest-inside : (piece form : List ℕ) (n : ℕ) → rest_of piece form ≡ Some n → n ≤ length piece
 unfolding rest_of
 rest-inside piece form n e = go (leaves piece form) refl e
   where
-    go : (b : Bool) → leaves piece form ≡ b → pick b (From (length form)) Nothing ≡ From n → n ≤ length piece
+    go : (b : Bool) → leaves piece form ≡ b → pick b (Some (length form)) None ≡ Some n → n ≤ length piece
     go true l q =
         let h = begins-length form piece (leaves-begins piece form l) in
         let z : length form ≡ n = cc in

@@ -1,10 +1,8 @@
 -- What a prefix form leaves of a piece (document 01, "Strips, readings, rank"), and how the code says it. Readings, decompose and
 -- candidates all strip by it. Assumes nothing.
-use Rattle.std.specs.Prelude.{ℕ, Bool, ◌&&◌, List, [], ◌∷◌, length, drop, eqb, leb}
+use Rattle.std.specs.Prelude.{ℕ, Bool, ◌&&◌, List, [], ◌∷◌, length, drop, eqb, leb, None, Option, Some}
 use Rattle.runs.specs.Runs.{pick, begins_with}
 use Rattle.text.specs.Characters.{chars}
-use Rattle.strips.specs.declared.prefix.Rest.{Rest}
-use Rattle.strips.specs.declared.prefix.Rest.TheVariants.{Nothing, From}
 
 -- how many characters a form leaves at least: 2, or 4 where the form is one character
 unfoldable pub least_after : List ℕ → ℕ
@@ -23,10 +21,10 @@ unfoldable pub prefix_remainder : List ℕ → List ℕ → List (List ℕ)
 prefix_remainder piece form = pick (leaves piece form) (after piece form ∷ []) []
 
 -- the same as the code says it: the byte of the piece from which on it is left
-unfoldable pub rest_of : List ℕ → List ℕ → Rest
-rest_of piece form = pick (leaves piece form) (From (length form)) Nothing
+unfoldable pub rest_of : List ℕ → List ℕ → Option ℕ
+rest_of piece form = pick (leaves piece form) (Some (length form)) None
 
 -- the part of the piece that such an answer says
-abbrev pub behind : List ℕ → Rest → List (List ℕ)
-behind piece Nothing = []
-behind piece (From n) = drop n piece ∷ []
+abbrev pub behind : List ℕ → Option ℕ → List (List ℕ)
+behind piece None = []
+behind piece (Some n) = drop n piece ∷ []

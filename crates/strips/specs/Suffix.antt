@@ -1,6 +1,6 @@
 -- The remainders of a piece under a suffix (document 01, "Strips, readings, rank"), and how the code says them. Readings, decompose,
 -- candidates and origin all strip by these. Assumes nothing.
-use Rattle.std.specs.Prelude.{ℕ, suc, ◌+◌, ◌-◌, Bool, true, false, not, ◌&&◌, List, [], ◌∷◌, ◌++◌, map, length, take, eqb, ltb}
+use Rattle.std.specs.Prelude.{ℕ, suc, ◌+◌, ◌-◌, Bool, true, false, not, ◌&&◌, List, [], ◌∷◌, ◌++◌, map, length, take, eqb, ltb, Option, Some, None}
 use Rattle.runs.specs.Runs.{pick, ends_in}
 use Rattle.text.specs.Characters.{chars, opens}
 use Rattle.tables.specs.Tables.{is_ii}
@@ -61,24 +61,28 @@ plain_length piece suffix = length piece - length suffix
 abbrev pub shared_length : List ℕ → List ℕ → ℕ
 shared_length piece suffix = plain_length piece suffix + first_length suffix
 
--- the remainders as the code says them: how many, and the length of each, 0 where there is none
+-- the remainders as the code says them: the length of each, where there is one
 unfoldable pub rests_of : List ℕ → List ℕ → Rests
-rests_of piece suffix =
-    pick (sheds piece suffix)
-    (pick (is_long suffix)
-    (record { count = 2; plain = plain_length piece suffix; shared = shared_length piece suffix })
-    (record { count = 1; plain = plain_length piece suffix; shared = 0 }))
-    (record { count = 0; plain = 0; shared = 0 })
+rests_of piece suffix = record {
+  plain = pick (sheds piece suffix) (Some (plain_length piece suffix)) None;
+  shared = pick (sheds piece suffix && is_long suffix) (Some (shared_length piece suffix)) None;
+}
 
--- the parts of the piece that such lengths say
+-- the part of the piece that such a length says, one or none
+abbrev pub front : List ℕ → Option ℕ → List (List ℕ)
+front piece None = []
+front piece (Some n) = take n piece ∷ []
+
 abbrev pub fronts : List ℕ → Rests → List (List ℕ)
-fronts piece r = pick (ltb 0 r.count) (take r.plain piece ∷ []) [] ++ pick (ltb 1 r.count) (take r.shared piece ∷ []) []
+fronts piece r = front piece r.plain ++ front piece r.shared
 
 -- the same, each with its mark
+abbrev pub marked_front : List ℕ → Bool → Option ℕ → List Marked
+marked_front piece is_shared None = []
+marked_front piece is_shared (Some n) = record { left = take n piece; is_shared = is_shared } ∷ []
+
 abbrev pub marked_fronts : List ℕ → Rests → List Marked
-marked_fronts piece r =
-    pick (ltb 0 r.count) (record { left = take r.plain piece; is_shared = false } ∷ []) []
-    ++ pick (ltb 1 r.count) (record { left = take r.shared piece; is_shared = true } ∷ []) []
+marked_fronts piece r = marked_front piece false r.plain ++ marked_front piece true r.shared
 
 -- the extra rule for ई and ी: a piece whose own `w` line has p (a pronoun) gives none unless that line has e (it is spelled out)
 unfoldable pub keeps_pronoun : Bool → Bool → List ℕ → Bool

@@ -3,13 +3,6 @@
 ghost use Rattle.std.specs.Prelude.{◌≡◌};
 ghost use Rattle.strips.specs.Prefix.{least_after, rest_of};
 
-// What is left of the piece: nothing that counts, or all from a byte on.
-#[derive(Clone, Copy)]
-pub enum Rest {
-    Nothing,
-    From(usize),
-}
-
 // How many characters a form must leave: 2, or 4 where the form is one character. It takes any run, an empty one too.
 pub fn least_after(form: &[u8]) -> usize
     ensures { result ≡ least_after form.now }
@@ -21,17 +14,17 @@ pub fn least_after(form: &[u8]) -> usize
 }
 
 // What the form leaves of the piece. A piece that does not begin with the form has no rest, nor one of which too little is left.
-pub fn prefix_rest(piece: &[u8], form: &[u8]) -> Rest
+pub fn prefix_rest(piece: &[u8], form: &[u8]) -> Option<usize>
     ensures { result ≡ rest_of piece.now form.now }
 {
     if !runs::begins_with(piece, form) {
-        return Rest::Nothing;
+        return None;
     }
     let n = form.len();
     let left = text::characters::count(&piece[n..]);
     let least = least_after(form);
     if left < least {
-        return Rest::Nothing;
+        return None;
     }
-    Rest::From(n)
+    Some(n)
 }

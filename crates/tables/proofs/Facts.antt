@@ -7,16 +7,15 @@ use Prim.Native.Nat.{ℕ, ◌+◌, ◌≤◌, ◌<◌}
 use lib.ListN.{length, take, get_or, get_or-append}
 use lib.Seq.{get_or-append-add}
 use lib.Dec.{eqb, leb, ltb}
+use Rattle.std.specs.declared.cmp.Ordering.TheVariants.{Less}
 use borrow.Author.Tests.{eqb-true, leb-true, ltb-true, not-true}
-use Rattle.runs.specs.Runs.{cmp}
-use Rattle.runs.specs.declared.Order.TheVariants.{Less}
 use Rattle.text.specs.Utf8.{is_utf8, run, after, opened, utf8_char, within}
 use Rattle.text.specs.Characters.{chars, opens}
 use Rattle.tables.specs.Rows.{prefix_labels, prefix_forms, plural_markers, case_markers, particles, suffixes, strip_suffixes, origin_words, origin_tags}
 use Rattle.tables.specs.Tables.{affixes, is_ii}
 use Rattle.runs.proofs.Begins.{and_left, and_right}
 use Rattle.tables.proofs.Tested.{every, at}
-use Rattle.tables.proofs.Listed.{ascending, ascends}
+use Rattle.tables.proofs.Listed.{ascending, ascends, stand}
 
 -- The number of rows.
 
@@ -123,7 +122,7 @@ pub origin_ascending : ascending origin_words ≡ true
 unfolding origin_words
 origin_ascending = refl
 
-pub origin_ascends : (i j : ℕ) → i < j → j < 79 → cmp (get_or origin_words i []) (get_or origin_words j []) ≡ Less
+pub origin_ascends : (i j : ℕ) → i < j → j < 79 → stand (get_or origin_words i []) (get_or origin_words j []) ≡ Less
 origin_ascends i j l h = ascends origin_words origin_ascending i j l (rw origin_word_count h)
 
 -- Rows of one character.

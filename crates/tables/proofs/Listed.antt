@@ -1,112 +1,101 @@
--- The search of a table whose words ascend: what one look at a row says of the others, and what follows for the origin of a word.
--- Cited by `lookup_origin`. Assumes nothing.
-use mathlib.Core.Path.{◌≡◌, refl, ap, sym, ◌∙◌}
-use mathlib.Core.Bool.{Bool, true, false, ◌&&◌}
-use mathlib.Core.List.{List, [], ◌∷◌}
-use Prim.Native.Nat.{ℕ, zero, suc, ◌+◌, ◌≤◌, ◌<◌}
+-- The search of a table whose words ascend: what a binary search's answer says of the origin of a word. Cited by `lookup_origin`.
+-- Assumes nothing.
+use Rattle.std.proofs.Common.{◌≡◌, refl, sym, ap, ◌∙◌, ℕ, zero, suc, ◌+◌, ◌<◌, Bool, true, false, ◌&&◌, List, [], ◌∷◌, length, get_or, map, Result, Ok, Err, MatchResult, Some, None, arith}
 use native.Mathlib.Nat.{not-suc-le-zero, le_of_suc-le-suc, zero-lt-suc}
-use native.Mathlib.Omega.{arith}
-use lib.ListN.{length, get_or}
-use borrow.Author.Count.{below_more}
-use Rattle.runs.specs.Runs.{same_text, cmp}
-use Rattle.runs.specs.declared.Order.{Order}
-use Rattle.runs.specs.declared.Order.TheVariants.{Less, Equal, Greater}
-use Rattle.tables.specs.declared.origins.Origin.{Origin}
-use Rattle.tables.specs.declared.origins.Origin.TheVariants.{Tatsam, Tadbhav, Deshaj, Aagantuk}
-use Rattle.tables.specs.declared.origins.OriginFound.TheVariants.{Listed, Unlisted}
-use Rattle.tables.specs.Origins.{letter_of, letters, tagged_by, origin_in}
+use lib.ListN.{length-map}
+use Rattle.std.specs.declared.cmp.Ordering.{Ordering}
+use Rattle.std.specs.declared.cmp.Ordering.TheVariants.{Less, Equal, Greater}
+use Rattle.std.specs.Ordering.{nat_cmp, is_lt, is_eq, ordering_index, ordering_reverse}
+use Rattle.std.specs.Cmp.Lexicographic.{slice_cmp}
+use Rattle.std.specs.List.Sorted.{IsSearchInRange, IsBinarySearchResult, IsNonDecreasingBy}
+use Rattle.std.proofs.lemmas.List.Sorted.{searchable_from_sorted}
+use Rattle.std.proofs.lemmas.Bool.Decides.{nat_tests}
+use Rattle.std.proofs.lemmas.List.{get_or-map}
+use Rattle.std.proofs.lemmas.Cmp.{same_from_slice_cmp, nat_list_cmp_total, alike_right}
+use Rattle.runs.specs.Runs.{same_text}
 use Rattle.runs.proofs.Begins.{and_left, and_right}
-use Rattle.runs.proofs.Ordered.{same_true, cmp_trans, cmp_turned, turned, same_cmp, is_equal}
+use Rattle.tables.specs.declared.origins.Origin.{Origin}
+use Rattle.tables.specs.Origins.{origin_in}
 use Rattle.tables.proofs.Compared.{by_order}
 
-abbrev is_less : Order → Bool
-is_less Less = true
-is_less Equal = false
-is_less Greater = false
+-- how two words stand, by their bytes
+abbrev pub stand : List ℕ → List ℕ → Ordering
+stand = slice_cmp nat_cmp
 
-is-less : (o : Order) → is_less o ≡ true → o ≡ Less
+-- each word is below the next: the test over neighbours
+abbrev pub ascending : List (List ℕ) → Bool
+ascending [] = true
+ascending (a ∷ []) = true
+ascending (a ∷ b ∷ words) = is_lt (stand a b) && ascending (b ∷ words)
+
+is-less : (o : Ordering) → is_lt o ≡ true → o ≡ Less
 is-less Less e = refl
 is-less Equal e = cc
 is-less Greater e = cc
 
--- each row is below the next: the test over neighbours
-abbrev pub ascending : List (List ℕ) → Bool
-ascending [] = true
-ascending (a ∷ []) = true
-ascending (a ∷ b ∷ rows) = is_less (cmp a b) && ascending (b ∷ rows)
-
-ascending_tail : (a : List ℕ) (rows : List (List ℕ)) → ascending (a ∷ rows) ≡ true → ascending rows ≡ true
+ascending_tail : (a : List ℕ) (words : List (List ℕ)) → ascending (a ∷ words) ≡ true → ascending words ≡ true
 ascending_tail a [] t = refl
-ascending_tail a (b ∷ rows) t = and_right (is_less (cmp a b)) (ascending (b ∷ rows)) t
+ascending_tail a (b ∷ words) t = and_right (is_lt (stand a b)) (ascending (b ∷ words)) t
 
-first_below : (a : List ℕ) (rows : List (List ℕ)) → ascending (a ∷ rows) ≡ true → (j : ℕ) → j < length rows → cmp a (get_or rows j []) ≡ Less
+first_below : (a : List ℕ) (words : List (List ℕ)) → ascending (a ∷ words) ≡ true → (j : ℕ) → j < length words → stand a (get_or words j []) ≡ Less
 first_below a [] t j h = absurd (not-suc-le-zero h)
-first_below a (b ∷ rows) t zero h = is-less (cmp a b) (and_left (is_less (cmp a b)) (ascending (b ∷ rows)) t)
-first_below a (b ∷ rows) t (suc j) h =
-    cmp_trans a b (get_or rows j []) (is-less (cmp a b) (and_left (is_less (cmp a b)) (ascending (b ∷ rows)) t))
-    (first_below b rows (ascending_tail a (b ∷ rows) t) j (le_of_suc-le-suc h))
+first_below a (b ∷ words) t zero h = is-less (stand a b) (and_left (is_lt (stand a b)) (ascending (b ∷ words)) t)
+first_below a (b ∷ words) t (suc j) h =
+    nat_list_cmp_total.trans a b (get_or words j []) (is-less (stand a b) (and_left (is_lt (stand a b)) (ascending (b ∷ words)) t))
+    (first_below b words (ascending_tail a (b ∷ words) t) j (le_of_suc-le-suc h))
 
--- from neighbours to any two rows
-pub ascends : (rows : List (List ℕ)) → ascending rows ≡ true → (i j : ℕ) → i < j → j < length rows
-    → cmp (get_or rows i []) (get_or rows j []) ≡ Less
+-- from neighbours to any two words
+pub ascends : (words : List (List ℕ)) → ascending words ≡ true → (i j : ℕ) → i < j → j < length words
+    → stand (get_or words i []) (get_or words j []) ≡ Less
 ascends [] t i j l h = absurd (not-suc-le-zero h)
-ascends (a ∷ rows) t i zero l h = absurd (not-suc-le-zero l)
-ascends (a ∷ rows) t zero (suc j) l h = first_below a rows t j (le_of_suc-le-suc h)
-ascends (a ∷ rows) t (suc i) (suc j) l h = ascends rows (ascending_tail a rows t) i j (le_of_suc-le-suc l) (le_of_suc-le-suc h)
+ascends (a ∷ words) t i zero l h = absurd (not-suc-le-zero l)
+ascends (a ∷ words) t zero (suc j) l h = first_below a words t j (le_of_suc-le-suc h)
+ascends (a ∷ words) t (suc i) (suc j) l h = ascends words (ascending_tail a words t) i j (le_of_suc-le-suc l) (le_of_suc-le-suc h)
 
--- a row below or above the word is another text
-other : (a b : List ℕ) (o : Order) → cmp a b ≡ o → is_equal o ≡ false → same_text a b ≡ false
-other a b o e f = same_cmp a b ∙ ap is_equal e ∙ f
+-- two words are the same where neither is below the other
+same_stand : (a b : List ℕ) → is_eq (stand a b) ≡ same_text a b
+same_stand a b = same_from_slice_cmp nat_cmp is_eq same_text refl (λ _ _. refl) (λ _ _. refl) (λ x y xs ys o h. grind (arith, nat_tests)) a b (stand a b) refl
 
-module _ (rows : List (List ℕ)) (t : ascending rows ≡ true) (w : List ℕ) where
-  -- a row below the word: so is each row up to it
-  pub all_below : (m : ℕ) → m < length rows → cmp (get_or rows m []) w ≡ Less → (k : ℕ) → k < m + 1 → cmp (get_or rows k []) w ≡ Less
-  all_below m h e = below_more _ m (λ k l. cmp_trans (get_or rows k []) (get_or rows m []) w (ascends rows t k m l h) e) e
+module _ {A : Type 0} (word : A → List ℕ) (tag : A → Origin) (w : List ℕ) where
+  -- no row's word is w
+  pub not_listed : (rows : List A) → ((k : ℕ) (d : A) → k < length rows → same_text (word (get_or rows k d)) w ≡ false)
+      → None ≡ origin_in (map word rows) (map tag rows) w
+  not_listed [] h = refl
+  not_listed (r ∷ rows) h = rw (h 0 r (zero-lt-suc (length rows))) (not_listed rows (λ k d l. h (suc k) d (omega arith)))
 
-  -- a row above the word: so is each row from it on
-  pub all_above : (m : ℕ) → cmp (get_or rows m []) w ≡ Greater → (k : ℕ) → m ≤ k → k < length rows → cmp (get_or rows k []) w ≡ Greater
-  all_above m e k l h =
-      by_order m k
-      (λ u.
-      cmp_turned w (get_or rows k [])
-      ∙ ap turned (cmp_trans w (get_or rows m []) (get_or rows k []) (cmp_turned (get_or rows m []) w ∙ ap turned e) (ascends rows t m k u h)))
-      (λ u. let z : k ≡ m = omega arith in rw z e)
+  -- row m's word is w, and no earlier one
+  pub listed_at : (rows : List A) (m : ℕ) (d : A) → m < length rows → ((k : ℕ) → k < m → same_text (word (get_or rows k d)) w ≡ false)
+      → same_text (word (get_or rows m d)) w ≡ true → Some (tag (get_or rows m d)) ≡ origin_in (map word rows) (map tag rows) w
+  listed_at [] m d l h e = absurd (not-suc-le-zero l)
+  listed_at (r ∷ rows) zero d l h e = rw e
+  listed_at (r ∷ rows) (suc m) d l h e = rw (h 0 (zero-lt-suc m)) (listed_at rows m d (le_of_suc-le-suc l) (λ k u. h (suc k) (omega arith)) e)
 
-  -- a row that is the word: no row before it is
-  pub none_before : (m : ℕ) → m < length rows → cmp (get_or rows m []) w ≡ Equal → (k : ℕ) → k < m → same_text (get_or rows k []) w ≡ false
-  none_before m h e k l =
-      let q : get_or rows m [] ≡ w = same_true (get_or rows m []) w (same_cmp (get_or rows m []) w ∙ ap is_equal e) in
-      other (get_or rows k []) w Less (ap (cmp (get_or rows k [])) (sym q) ∙ ascends rows t k m l h) refl
+  other : (a : List ℕ) (o : Ordering) → stand a w ≡ o → is_eq o ≡ false → same_text a w ≡ false
+  other a o e f = sym (same_stand a w) ∙ ap is_eq e ∙ f
 
-  -- each row is below the word or above it: none is the word
-  pub none : (low high : ℕ) → high ≤ low → ((k : ℕ) → k < low → cmp (get_or rows k []) w ≡ Less)
-      → ((k : ℕ) → high ≤ k → k < length rows → cmp (get_or rows k []) w ≡ Greater)
-      → (k : ℕ) → k < length rows → same_text (get_or rows k []) w ≡ false
-  none low high n below above k h =
-      by_order k low
-      (λ u. other (get_or rows k []) w Less (below k u) refl)
-      (λ u. other (get_or rows k []) w Greater (above k (omega arith) h) refl)
+  module _ (rows : List A) (words : List (List ℕ)) (tags : List Origin) (e : map word rows ≡ words) (f : map tag rows ≡ tags) (up : ascending words ≡ true) where
+    above : (i j : ℕ) (d : A) → i < j → j < length rows → stand (word (get_or rows i d)) (word (get_or rows j d)) ≡ Less
+    above i j d l h =
+        let n = length-map rows word in
+        rw (get_or-map word rows i d [] (omega arith), get_or-map word rows j d [] h) at (ascends (map word rows) (rw e up) i j l (rw n h))
 
--- no row is the word
-pub not_listed : (rows : List (List ℕ)) (tags : List Origin) (w : List ℕ) → ((k : ℕ) → k < length rows → same_text (get_or rows k []) w ≡ false)
-    → origin_in rows tags w ≡ Unlisted
-not_listed [] tags w h = refl
-not_listed (r ∷ rows) [] w h = refl
-not_listed (r ∷ rows) (o ∷ tags) w h =
-    rw (h 0 (zero-lt-suc (length rows))) (not_listed rows tags w (λ k l. h (suc k) (omega arith)))
+    rising : IsNonDecreasingBy (λ r. ordering_index (stand (word r) w)) rows
+    rising =
+        searchable_from_sorted nat_list_cmp_total word rows w
+        (λ k d _ h. ap is_lt (nat_list_cmp_total.antisymm (word (get_or rows (k + 1) d)) (word (get_or rows k d)) ∙ ap ordering_reverse (above k (k + 1) d (omega arith) h)))
 
--- row m is the word, and no row before it
-pub listed_at : (rows : List (List ℕ)) (tags : List Origin) (w : List ℕ) (m : ℕ) → m < length rows → length tags ≡ length rows
-    → ((k : ℕ) → k < m → same_text (get_or rows k []) w ≡ false) → same_text (get_or rows m []) w ≡ true
-    → origin_in rows tags w ≡ Listed (tagged_by (get_or (letters tags) m 0))
-listed_at [] tags w m l n h e = absurd (not-suc-le-zero l)
-listed_at (r ∷ rows) [] w m l n h e = absurd (omega arith)
-listed_at (r ∷ rows) (o ∷ tags) w zero l n h e = rw e (ap Listed (read_back_lem o))
-  where
-    read_back_lem : (o : Origin) → o ≡ tagged_by (letter_of o)
-    read_back_lem Tatsam = refl
-    read_back_lem Tadbhav = refl
-    read_back_lem Deshaj = refl
-    read_back_lem Aagantuk = refl
-listed_at (r ∷ rows) (o ∷ tags) w (suc m) l n h e =
-    rw (h 0 (zero-lt-suc m)) (listed_at rows tags w m (le_of_suc-le-suc l) (omega arith) (λ k u. h (suc k) (omega arith)) e)
+    -- what the search answers: a row that is the only one of its word, or a place that parts the rows below w from those above
+    pub searched : (r : Result ℕ ℕ) → IsSearchInRange r (length rows) → IsBinarySearchResult (λ r. stand (word r) w) rows r
+        → MatchResult r (λ k. (d : A) → Some (tag (get_or rows k d)) ≡ origin_in words tags w) (λ _. None ≡ origin_in words tags w)
+    searched (Ok k) l h = λ d.
+        rw (← e, ← f)
+        (listed_at rows k d l
+        (λ j u. other (word (get_or rows j d)) Less (sym (alike_right nat_list_cmp_total (word (get_or rows k d)) w (word (get_or rows j d)) (h d)) ∙ above j k d u l) refl)
+        (sym (same_stand (word (get_or rows k d)) w) ∙ ap is_eq (h d)))
+    searched (Err k) l h =
+        let parted = h rising in
+        rw (← e, ← f)
+        (not_listed rows
+        (λ j d u.
+        by_order j k (λ v. other (word (get_or rows j d)) Less (parted.0 j d (omega arith) v) refl)
+        (λ v. other (word (get_or rows j d)) Greater (parted.1 j d v u) refl)))

@@ -3,34 +3,22 @@ ghost use Rattle.std.specs.Prelude.{◌≡◌};
 ghost use Rattle.text.specs.Names.{forbidden, holds_forbidden};
 
 // Whether b is one of 00 to 20, 28, 29 and 7F.
+#[tactic(auto, unfolding(crate::specs::Names::forbidden))]
 pub fn is_forbidden(b: u8) -> bool
     ensures { result ≡ forbidden b }
 {
-    if b <= 0x20 {
-        return true;
-    }
-    if b == 0x28 {
-        return true;
-    }
-    if b == 0x29 {
-        return true;
-    }
-    if b == 0x7F {
-        return true;
-    }
-    false
+    b <= 0x20 || b == 0x28 || b == 0x29 || b == 0x7F
 }
 
 // Whether s holds such a byte.
+#[tactic(auto, using(crate::proofs::Scan::forbidden_here, crate::proofs::Scan::forbidden_next, crate::proofs::Scan::forbidden_end))]
 pub fn holds_forbidden(s: &[u8]) -> bool
     ensures { result ≡ holds_forbidden s.now }
 {
-    let mut i = 0;
-    while i < s.len() {
-        if is_forbidden(s[i]) {
+    for &b in s {
+        if is_forbidden(b) {
             return true;
         }
-        i += 1;
     }
     false
 }

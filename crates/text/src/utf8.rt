@@ -5,7 +5,7 @@ ghost use Rattle.text.specs.Utf8.{from_to, within, misfit, opened, utf8_char, af
 ghost use Rattle.text.specs.Owes.{owed_of};
 
 // What is still owed of the character that has begun. A named range is that of the next byte; every later one is 80 to BF.
-#[derive(Clone, Copy)]
+#[derive(Clone, Copy, Debug, PartialEq, Eq)]
 pub enum State {
     Nothing,
     One,
@@ -19,56 +19,38 @@ pub enum State {
 }
 
 // What a character owes whose first byte is b.
+#[tactic(auto, unfolding(crate::specs::Utf8::opened, crate::specs::Utf8::utf8_char, crate::specs::Utf8::within))]
 pub fn open(b: u8) -> State
     ensures { owed_of result ≡ opened utf8_char b }
 {
-    if b < 0x80 {
-        return State::Nothing;
+    match b {
+        0x00..=0x7F => State::Nothing,
+        0xC2..=0xDF => State::One,
+        0xE0 => State::TwoFromA0,
+        0xE1..=0xEC => State::Two,
+        0xED => State::TwoTo9F,
+        0xEE..=0xEF => State::Two,
+        0xF0 => State::ThreeFrom90,
+        0xF1..=0xF3 => State::Three,
+        0xF4 => State::ThreeTo8F,
+        _ => State::Misfit,
     }
-    if b < 0xC2 {
-        return State::Misfit;
-    }
-    if b < 0xE0 {
-        return State::One;
-    }
-    if b == 0xE0 {
-        return State::TwoFromA0;
-    }
-    if b < 0xED {
-        return State::Two;
-    }
-    if b == 0xED {
-        return State::TwoTo9F;
-    }
-    if b < 0xF0 {
-        return State::Two;
-    }
-    if b == 0xF0 {
-        return State::ThreeFrom90;
-    }
-    if b < 0xF4 {
-        return State::Three;
-    }
-    if b == 0xF4 {
-        return State::ThreeTo8F;
-    }
-    State::Misfit
 }
 
 // `then` where b lies from low to high.
+#[tactic(auto, unfolding(crate::specs::Utf8::within))]
 fn held(b: u8, low: u8, high: u8, then: State) -> State
     ensures { owed_of result ≡ pick (within (from_to low high) b) (owed_of then) misfit }
 {
-    if b < low {
-        return State::Misfit;
+    if low <= b && b <= high {
+        then
+    } else {
+        State::Misfit
     }
-    if high < b {
-        return State::Misfit;
-    }
-    then
 }
 
 // What is owed after one more byte.
+#[tactic(auto, unfolding(crate::specs::Utf8::after))]
 pub fn next(state: State, b: u8) -> State
     ensures { owed_of result ≡ after (owed_of state) b }
 {
@@ -89,28 +71,17 @@ pub fn next(state: State, b: u8) -> State
 pub fn is_whole(state: State) -> bool
     ensures { result ≡ whole (owed_of state) }
 {
-    match state {
-        State::Nothing => true,
-        State::One => false,
-        State::Two => false,
-        State::Three => false,
-        State::TwoFromA0 => false,
-        State::TwoTo9F => false,
-        State::ThreeFrom90 => false,
-        State::ThreeTo8F => false,
-        State::Misfit => false,
-    }
+    state == State::Nothing
 }
 
 // Whether s is UTF-8.
+#[tactic(auto, using(crate::proofs::Scan::run_next, crate::proofs::Scan::run_end), unfolding(crate::specs::Utf8::is_utf8))]
 pub fn is_utf8(s: &[u8]) -> bool
     ensures { result ≡ is_utf8 s.now }
 {
     let mut state = State::Nothing;
-    let mut i = 0;
-    while i < s.len() {
-        state = next(state, s[i]);
-        i += 1;
+    for &b in s {
+        state = next(state, b);
     }
     is_whole(state)
 }

@@ -1,23 +1,25 @@
 -- What each return of the entries says, and what the list holds: nothing of it is written where anything is refused, and where all fit the
 -- tokens stand in front of its old numbers. The proofs of `tokenize` and `tokenize_in` cite these. Assumes nothing.
+use Rattle.std.specs.Prelude.{Err, Ok, Result}
+use Rattle.refusals.specs.declared.Refusal.{Refusal}
 use Prim.Native.Nat.{ℕ, suc, ◌+◌, ◌*◌, ◌≤◌, ◌<◌}
 use native.Mathlib.Omega.{arith}
 use mathlib.Core.Path.{◌≡◌, refl, sym, ap, ◌∙◌}
-use mathlib.Core.Bool.{true, false}
+use mathlib.Core.Bool.{Bool, true, false}
+use Rattle.runs.specs.Runs.{pick}
+use Rattle.std.proofs.lemmas.Option.{none-some, same_Some}
+use Rattle.std.specs.declared.option.Option.TheVariants.{Some, None}
 use mathlib.Core.List.{List, [], ◌∷◌, ◌++◌, append_assoc}
-use native.Mathlib.Numerals.{add-one}
-use lib.ListN.{length, take, drop, set, get_or, length-set, take-append-drop}
-use lib.Seq.{take-suc-set, drop-set-lt, paste, paste-suc, take_at}
+use lib.ListN.{length, take, drop, set, length-set, take-append-drop}
+use lib.Seq.{take-suc-set, drop-set-lt, take_at}
 use borrow.Author.Tests.{lt-ltb, le-ltb}
 use Rattle.text.specs.Utf8.{is_utf8}
 use Rattle.tokenizer.specs.Tokens.{Span}
 use Rattle.tokenizer.specs.Scanned.{tokens_of}
 use Rattle.tokenizer.specs.Answers.{text_limit, tokenized, pairs, listed}
-use Rattle.tokenizer.specs.Stored.{stored, passed}
+use Rattle.tokenizer.specs.Stored.{stored, passed, counted}
 use Rattle.refusals.specs.Refusals.{output_by}
 use Rattle.refusals.specs.declared.Refusal.TheVariants.{TextTooLong, TextNotUtf8, ListTooShort}
-use Rattle.refusals.specs.declared.Written.{Written}
-use Rattle.refusals.specs.declared.Written.TheVariants.{Wrote, Refused}
 use Rattle.tokenizer.proofs.Turns.{put-room}
 
 -- two numbers stored at a place of a list
@@ -38,12 +40,6 @@ pub pairs-length : (ts : List Span) → length (pairs ts) ≡ 2 * length ts
 unfolding pairs
 pairs-length [] = refl
 pairs-length (t ∷ ts) = let k = pairs-length ts in omega arith
-
--- one number more of a copy
-pub copied_next : (old from list : List ℕ) (i : ℕ) → i < length old → i < length from → list ≡ paste old 0 from i → set list i (get_or from i 0) ≡ paste old 0 from (i + 1)
-copied_next old from list i h k e =
-    let z : 0 + i ≡ i = omega arith in
-    ap (λ (x : List ℕ). set x i (get_or from i 0)) e ∙ ap (λ (x : ℕ). set (paste old 0 from i) x (get_or from i 0)) (sym z) ∙ paste-suc old 0 from i 0 (omega arith) k ∙ ap (paste old 0 from) (sym (add-one i))
 
 -- tokens that all fit stand one after the other
 stored-fits : (ts : List Span) (old : List ℕ) (k : ℕ) → 2 * k + 2 * length ts ≤ length old → stored old k ts ≡ take (2 * k) old ++ (pairs ts ++ drop (2 * k + 2 * length ts) old)
@@ -68,18 +64,18 @@ stored_all ts old h =
     stored-fits ts old 0 (omega arith) ∙ ap (λ (x : ℕ). pairs ts ++ drop x old) p
 
 module _ (s old : List ℕ) where
-  left_by_lem : (t : Written) → t ≡ tokenized s (length old) → output_by t (pairs (tokens_of s)) old ≡ listed s old
+  left_by_lem : (t : Result ℕ Refusal) → t ≡ tokenized s (length old) → output_by t (pairs (tokens_of s)) old ≡ listed s old
   unfolding listed
-  left_by_lem t e = ap (λ (x : Written). output_by x (pairs (tokens_of s)) old) e
+  left_by_lem t e = ap (λ (x : Result ℕ Refusal). output_by x (pairs (tokens_of s)) old) e
 
-  said_long : text_limit < length s → Refused TextTooLong ≡ tokenized s (length old)
+  said_long : text_limit < length s → Err TextTooLong ≡ tokenized s (length old)
   unfolding tokenized
   said_long h = rw (lt-ltb text_limit (length s) h)
 
-  pub long : text_limit < length s → (Refused TextTooLong ≡ tokenized s (length old)) × (old ≡ listed s old)
-  long h = (said_long h, left_by_lem (Refused TextTooLong) (said_long h))
+  pub long : text_limit < length s → (Err TextTooLong ≡ tokenized s (length old)) × (old ≡ listed s old)
+  long h = (said_long h, left_by_lem (Err TextTooLong) (said_long h))
 
-  pub long_passed : text_limit < length s → (Refused TextTooLong ≡ tokenized s (length old)) × (old ≡ passed s old)
+  pub long_passed : text_limit < length s → (Err TextTooLong ≡ tokenized s (length old)) × (old ≡ passed s old)
   unfolding passed
   long_passed h = (said_long h, rw (lt-ltb text_limit (length s) h))
 
@@ -88,43 +84,58 @@ module _ (s old : List ℕ) where
     unfolding passed
     is_passed e = rw (le-ltb text_limit (length s) h) e
 
-    said_other : false ≡ is_utf8 s → Refused TextNotUtf8 ≡ tokenized s (length old)
-    unfolding tokenized
-    said_other e = rw (le-ltb text_limit (length s) h, ← e)
+    other_said : None ≡ counted s → is_utf8 s ≡ false
+    unfolding counted
+    other_said e = by (is_utf8 s) refl e
+      where
+        by : (x : Bool) → is_utf8 s ≡ x → None ≡ pick x (Some (length (tokens_of s))) None → x ≡ false
+        by true f g = absurd (none-some _ g)
+        by false f g = refl
 
-    pub other_passed : {new : List ℕ} → false ≡ is_utf8 s → new ≡ stored old 0 (tokens_of s) → (Refused TextNotUtf8 ≡ tokenized s (length old)) × (new ≡ passed s old)
+    said_other : None ≡ counted s → Err TextNotUtf8 ≡ tokenized s (length old)
+    unfolding tokenized
+    said_other e = rw (le-ltb text_limit (length s) h, other_said e)
+
+    pub other_passed : {new : List ℕ} → None ≡ counted s → new ≡ stored old 0 (tokens_of s) → (Err TextNotUtf8 ≡ tokenized s (length old)) × (new ≡ passed s old)
     other_passed e f = (said_other e, is_passed f)
 
-    pub other : false ≡ is_utf8 s → (Refused TextNotUtf8 ≡ tokenized s (length old)) × (old ≡ listed s old)
-    other e = (said_other e, left_by_lem (Refused TextNotUtf8) (said_other e))
+    pub other : None ≡ counted s → (Err TextNotUtf8 ≡ tokenized s (length old)) × (old ≡ listed s old)
+    other e = (said_other e, left_by_lem (Err TextNotUtf8) (said_other e))
 
-    module _ (u : true ≡ is_utf8 s) (n : ℕ) (c : n ≡ length (tokens_of s)) where
-      said-short : length old < 2 * n → Refused ListTooShort ≡ tokenized s (length old)
+    module _ (n : ℕ) (c : Some n ≡ counted s) where
+      all_said : (is_utf8 s ≡ true) × (n ≡ length (tokens_of s))
+      unfolding counted
+      all_said = by (is_utf8 s) refl c
+        where
+          by : (x : Bool) → is_utf8 s ≡ x → Some n ≡ pick x (Some (length (tokens_of s))) None → (x ≡ true) × (n ≡ length (tokens_of s))
+          by true f g = (refl, same_Some n _ g)
+          by false f g = absurd (none-some n (sym g))
+
+      said_short : length old < 2 * n → Err ListTooShort ≡ tokenized s (length old)
       unfolding tokenized
-      said-short k = rw (le-ltb text_limit (length s) h, ← u, ← c, lt-ltb (length old) (2 * n) k)
+      said_short k = rw (le-ltb text_limit (length s) h, all_said.0, ← all_said.1, lt-ltb (length old) (2 * n) k)
 
-      pub short-passed : {new : List ℕ} → length old < 2 * n → new ≡ stored old 0 (tokens_of s) → (Refused ListTooShort ≡ tokenized s (length old)) × (new ≡ passed s old)
-      short-passed k f = (said-short k, is_passed f)
+      pub short_passed : {new : List ℕ} → length old < 2 * n → new ≡ stored old 0 (tokens_of s) → (Err ListTooShort ≡ tokenized s (length old)) × (new ≡ passed s old)
+      short_passed k f = (said_short k, is_passed f)
 
-      pub short : length old < 2 * n → (Refused ListTooShort ≡ tokenized s (length old)) × (old ≡ listed s old)
-      short k = (said-short k, left_by_lem (Refused ListTooShort) (said-short k))
+      pub short : length old < 2 * n → (Err ListTooShort ≡ tokenized s (length old)) × (old ≡ listed s old)
+      short k = (said_short k, left_by_lem (Err ListTooShort) (said_short k))
 
-      said_all : 2 * n ≤ length old → Wrote n ≡ tokenized s (length old)
+      said_all : 2 * n ≤ length old → Ok n ≡ tokenized s (length old)
       unfolding tokenized
-      said_all k = rw (le-ltb text_limit (length s) h, ← u, ← c, le-ltb (length old) (2 * n) k)
+      said_all k = rw (le-ltb text_limit (length s) h, all_said.0, ← all_said.1, le-ltb (length old) (2 * n) k)
 
-      pub all_passed : {new : List ℕ} → 2 * n ≤ length old → new ≡ stored old 0 (tokens_of s) → (Wrote n ≡ tokenized s (length old)) × (new ≡ passed s old)
+      pub all_passed : {new : List ℕ} → 2 * n ≤ length old → new ≡ stored old 0 (tokens_of s) → (Ok n ≡ tokenized s (length old)) × (new ≡ passed s old)
       all_passed k f = (said_all k, is_passed f)
 
-      pub all : {new : List ℕ} → 2 * n ≤ length old → new ≡ stored old 0 (tokens_of s) → (Wrote n ≡ tokenized s (length old)) × (new ≡ listed s old)
+      pub all : {new : List ℕ} → 2 * n ≤ length old → new ≡ stored old 0 (tokens_of s) → (Ok n ≡ tokenized s (length old)) × (new ≡ listed s old)
       all k e =
-          (said_all k, e ∙ stored_all (tokens_of s) old (rw c at k) ∙ ap (λ (x : ℕ). pairs (tokens_of s) ++ drop x old) (sym (pairs-length (tokens_of s))) ∙ left_by_lem (Wrote n) (said_all k))
+          (said_all k, e ∙ stored_all (tokens_of s) old (rw all_said.1 at k) ∙ ap (λ (x : ℕ). pairs (tokens_of s) ++ drop x old) (sym (pairs-length (tokens_of s))) ∙ left_by_lem (Ok n) (said_all k))
 
       -- the first pass kept them all
-      pub all_copied : (own : List ℕ) {kept new : List ℕ} → 2 * n ≤ length old → 2 * n ≤ length own → kept ≡ stored own 0 (tokens_of s) → new ≡ paste old 0 kept (2 * n)
-          → (Wrote n ≡ tokenized s (length old)) × (new ≡ listed s old)
+      pub all_copied : (own : List ℕ) {kept new : List ℕ} → 2 * n ≤ length old → 2 * n ≤ length own → kept ≡ stored own 0 (tokens_of s) → new ≡ take (2 * n) kept
+          → (Ok n ≡ tokenized s (length old)) × (new ++ drop (2 * n) old ≡ listed s old)
       all_copied own {kept} {new} k m f e =
-          let l : length (pairs (tokens_of s)) ≡ 2 * n = pairs-length (tokens_of s) ∙ ap (λ (x : ℕ). 2 * x) (sym c) in
-          let t : take (2 * n) kept ≡ pairs (tokens_of s) = ap (take (2 * n)) (f ∙ stored_all (tokens_of s) own (rw c at m)) ∙ take_at (pairs (tokens_of s)) _ (2 * n) l in
-          let z : 0 + 2 * n ≡ length (pairs (tokens_of s)) = omega arith in
-          (said_all k, e ∙ ap (λ (x : List ℕ). x ++ drop (0 + 2 * n) old) t ∙ ap (λ (x : ℕ). pairs (tokens_of s) ++ drop x old) z ∙ left_by_lem (Wrote n) (said_all k))
+          let l : length (pairs (tokens_of s)) ≡ 2 * n = pairs-length (tokens_of s) ∙ ap (λ (x : ℕ). 2 * x) (sym all_said.1) in
+          let t : take (2 * n) kept ≡ pairs (tokens_of s) = ap (take (2 * n)) (f ∙ stored_all (tokens_of s) own (rw all_said.1 at m)) ∙ take_at (pairs (tokens_of s)) _ (2 * n) l in
+          (said_all k, ap (λ (x : List ℕ). x ++ drop (2 * n) old) (e ∙ t) ∙ ap (λ (x : ℕ). pairs (tokens_of s) ++ drop x old) (sym l) ∙ left_by_lem (Ok n) (said_all k))

@@ -4,22 +4,26 @@ use Prim.Native.Nat.{ℕ, suc, ◌+◌, ◌-◌, ◌*◌, ◌≤◌, ◌<◌}
 use native.Mathlib.Nat.{add-zero}
 use native.Mathlib.Numerals.{add-one}
 use native.Mathlib.Omega.{arith}
-use borrow.Author.Tests.{eqb-true, eqb-false}
+use borrow.Author.Tests.{le-leb}
+use Rattle.std.proofs.lemmas.Bool.{both_ways, agree_below_at}
+use Rattle.std.proofs.lemmas.Bool.Decides.{nat_tests}
+use Rattle.std.proofs.lemmas.Option.{none-some, same_Some}
+use Rattle.std.specs.declared.option.Option.TheVariants.{Some, None}
 use mathlib.Core.Path.{◌≡◌, refl, sym, ap, ◌∙◌}
-use mathlib.Core.Logic.{⊎_elim}
 use mathlib.Core.Bool.{Bool, true, false, ◌&&◌}
 use mathlib.Core.List.{List, [], ◌∷◌}
-use lib.ListN.{length, take, drop, get_or, length-take, length-drop, drop_of_length-le}
+use lib.ListN.{length, take, drop, get_or, drop_of_length-le}
 use lib.Seq.{drop-cons}
-use lib.Dec.{eqb}
+use lib.Dec.{eqb, leb}
 use Rattle.runs.specs.Runs.{pick}
 use Rattle.text.specs.Utf8.{from_to, within, tail, utf8_char, Owed, owes, misfit, opened, after, whole}
 use Rattle.text.proofs.Ranges.{inside, below}
 use Rattle.tokenizer.specs.Scalars.{scalar}
 use Rattle.tokenizer.specs.Parting.{parts, among, white_space, punctuation, devanagari}
+use Rattle.tokenizer.specs.Marks.{ascii}
+use Rattle.tokenizer.proofs.Parted.{ascii_marks}
 use Rattle.tokenizer.specs.Scanned.{fits, width_by, width}
-use Rattle.tokenizer.specs.Looked.{seen}
-use Rattle.tokenizer.proofs.Parted.{gap, below_or_not}
+use Rattle.tokenizer.specs.Looked.{sized, sight, seen}
 
 -- how many bytes the character has of which n are read and that leaves o to come, where s follows
 abbrev pub size_by : ℕ → Owed → List ℕ → ℕ
@@ -30,82 +34,73 @@ size_by n (owes rs) s = pick (fits rs s) (n + length rs) 0
 pub here : (s : List ℕ) (at : ℕ) → at < length s → drop at s ≡ get_or s at 0 ∷ drop (at + 1) s
 here s at h = rw (add-one) (drop-cons s at 0 h)
 
-by_first : (o : Owed) (s : List ℕ) → width_by o s ≡ size_by 1 o s
-by_first misfit s = refl
-by_first (owes rs) s = let p : suc (length rs) ≡ 1 + length rs = omega arith in rw p
+-- the same where the character is not whole yet
+abbrev pub size_past : ℕ → Owed → List ℕ → ℕ
+size_past n o [] = 0
+size_past n o (b ∷ s) = size_by (n + 1) (after o b) s
 
-pub size-first : (s : List ℕ) (at : ℕ) (o : Owed) → at < length s → o ≡ opened utf8_char (get_or s at 0) → width (drop at s) ≡ size_by 1 o (drop (at + 1) s)
-unfolding width
-size-first s at o h e = rw (here s at h, e) (by_first (opened utf8_char (get_or s at 0)) (drop (at + 1) s))
+pub size_start : (s : List ℕ) → width s ≡ size_past 0 (owes []) s
+unfolding width after
+size_start [] = refl
+size_start (b ∷ s) = by (opened utf8_char b)
+  where
+    by : (o : Owed) → width_by o s ≡ size_by (0 + 1) o s
+    by misfit = refl
+    by (owes rs) = let p : suc (length rs) ≡ 0 + 1 + length rs = omega arith in rw p
 
--- one more byte
-size-more : (n b : ℕ) (o : Owed) (s : List ℕ) → whole o ≡ false → size_by n o (b ∷ s) ≡ size_by (n + 1) (after o b) s
+size_on : (n : ℕ) (o : Owed) (s : List ℕ) → whole o ≡ false → size_by n o s ≡ size_past n o s
 unfolding fits after
-size-more n b misfit s e = refl
-size-more n b (owes []) s e = let z : ◌≡◌ {A = ℕ} 0 1 = cc in absurd (omega arith)
-size-more n b (owes (r ∷ rs)) s e = by (within r b)
+size_on n misfit [] e = refl
+size_on n misfit (b ∷ s) e = refl
+size_on n (owes []) s e = absurd (both_ways _ e refl)
+size_on n (owes (r ∷ rs)) [] e = refl
+size_on n (owes (r ∷ rs)) (b ∷ s) e = by (within r b)
   where
     by : (x : Bool) → pick (x && fits rs s) (n + suc (length rs)) 0 ≡ size_by (n + 1) (pick x (owes rs) misfit) s
     by true = let p : n + suc (length rs) ≡ n + 1 + length rs = omega arith in rw p
     by false = refl
 
-pub size_next : (s : List ℕ) (at n : ℕ) (o o' : Owed) → at + n < length s → whole o ≡ false → o' ≡ after o (get_or s (at + n) 0)
-    → size_by n o (drop (at + n) s) ≡ size_by (n + 1) o' (drop (at + (n + 1)) s)
-size_next s at n o o' h w e =
-    let p : at + n + 1 ≡ at + (n + 1) = omega arith in
-    rw (here s (at + n) h, e, p) (size-more n (get_or s (at + n) 0) o (drop (at + (n + 1)) s) w)
-
-pub size-short : (s : List ℕ) (at n : ℕ) (o : Owed) → length s ≤ at + n → whole o ≡ false → size_by n o (drop (at + n) s) ≡ 0
+size_whole : (n : ℕ) (o : Owed) (s : List ℕ) → whole o ≡ true → size_by n o s ≡ n
 unfolding fits
-size-short s at n misfit h e = refl
-size-short s at n (owes []) h e = let z : ◌≡◌ {A = ℕ} 0 1 = cc in absurd (omega arith)
-size-short s at n (owes (r ∷ rs)) h e = rw (drop_of_length-le s h)
+size_whole n misfit s e = absurd (both_ways _ refl e)
+size_whole n (owes []) s e = add-zero n
+size_whole n (owes (r ∷ rs)) s e = absurd (both_ways _ refl e)
 
-pub size-whole : (n : ℕ) (o : Owed) (s : List ℕ) → whole o ≡ true → size_by n o s ≡ n
-unfolding fits
-size-whole n misfit s e = let z : ◌≡◌ {A = ℕ} 0 1 = cc in absurd (omega arith)
-size-whole n (owes []) s e = add-zero n
-size-whole n (owes (r ∷ rs)) s e = let z : ◌≡◌ {A = ℕ} 0 1 = cc in absurd (omega arith)
+-- one more byte: the character goes on, or is whole; or the text has ended
+module _ (s : List ℕ) (k : ℕ) (o : Owed) (w : width s ≡ size_past k o (drop k s)) where
+  next_size : (o' : Owed) → k < length s → o' ≡ after o (get_or s k 0) → width s ≡ size_by (k + 1) o' (drop (k + 1) s)
+  next_size o' h e = w ∙ rw (here s k h, e)
 
--- the number of a character, by its size
-pub number-none : (s : List ℕ) (n : ℕ) → n ≡ 0 → 0 ≡ scalar (take n s)
-unfolding scalar
-number-none s n e = rw e
+  pub size_goes : (o' : Owed) → k < length s → o' ≡ after o (get_or s k 0) → whole o' ≡ false → width s ≡ size_past (k + 1) o' (drop (k + 1) s)
+  size_goes o' h e f = next_size o' h e ∙ size_on (k + 1) o' (drop (k + 1) s) f
 
-module _ (s : List ℕ) (at n : ℕ) (h : at + n ≤ length s) where
-  pub number-one : n ≡ 1 → get_or s at 0 ≡ scalar (take n (drop at s))
-  unfolding scalar
-  number-one e = rw (e, here s at (omega arith))
+  pub size_some : (o' : Owed) → k < length s → o' ≡ after o (get_or s k 0) → whole o' ≡ true → Some (k + 1) ≡ sized s
+  unfolding sized
+  size_some o' h e f = rw (next_size o' h e ∙ size_whole (k + 1) o' (drop (k + 1) s) f, le-leb 1 (k + 1) (omega arith))
 
-  pub number_two : n ≡ 2 → (get_or s at 0 - 0xC0) * 64 + (get_or s (at + 1) 0 - 0x80) ≡ scalar (take n (drop at s))
-  unfolding scalar
-  number_two e = rw (e, here s at (omega arith), here s (at + 1) (omega arith))
+  pub size_none : length s ≤ k → None ≡ sized s
+  unfolding sized
+  size_none h = rw (w, drop_of_length-le s h)
 
-  pub number_three : n ≡ 3 → (get_or s at 0 - 0xE0) * 4096 + (get_or s (at + 1) 0 - 0x80) * 64 + (get_or s (at + 2) 0 - 0x80) ≡ scalar (take n (drop at s))
-  unfolding scalar
-  number_three e =
-      let p : at + 1 + 1 ≡ at + 2 = omega arith in
-      rw (e, here s at (omega arith), here s (at + 1) (omega arith), p, here s (at + 2) (omega arith))
+-- a character by its size and number
+pub looked : (s : List ℕ) (n c : ℕ) (p d : Bool) → Some n ≡ sized s → c ≡ scalar (take n s) → p ≡ parts c → d ≡ devanagari c
+    → Some (sight n p d) ≡ seen s
+unfolding sized seen
+looked s n c p d e f q r = by (leb 1 (width s)) refl e
+  where
+    by : (x : Bool) → leb 1 (width s) ≡ x → Some n ≡ pick x (Some (width s)) None
+        → Some (sight n p d) ≡ pick x (Some (sight (width s) (parts (scalar (take (width s) s))) (devanagari (scalar (take (width s) s))))) None
+    by true t g = let w : n ≡ width s = same_Some n (width s) g in rw (q, r, f, w)
+    by false t g = absurd (none-some n (sym g))
 
-  pub number_four : n ≡ 4
-      → (get_or s at 0 - 0xF0) * 262144 + (get_or s (at + 1) 0 - 0x80) * 4096 + (get_or s (at + 2) 0 - 0x80) * 64 + (get_or s (at + 3) 0 - 0x80) ≡ scalar (take n (drop at s))
-  unfolding scalar
-  number_four e =
-      let p : at + 1 + 1 ≡ at + 2 = omega arith in
-      let q : at + 2 + 1 ≡ at + 3 = omega arith in
-      rw (e, here s at (omega arith), here s (at + 1) (omega arith), p, here s (at + 2) (omega arith), q, here s (at + 3) (omega arith))
-
-  long : (l : List ℕ) → 5 ≤ length l → 0 ≡ scalar l
-  unfolding scalar
-  long [] k = refl
-  long (a ∷ []) k = absurd (omega arith)
-  long (a ∷ b ∷ []) k = absurd (omega arith)
-  long (a ∷ b ∷ c ∷ []) k = absurd (omega arith)
-  long (a ∷ b ∷ c ∷ d ∷ []) k = absurd (omega arith)
-  long (a ∷ b ∷ c ∷ d ∷ e ∷ l) k = refl
-
-  pub number_long : 5 ≤ n → 0 ≡ scalar (take n (drop at s))
-  number_long k = long (take n (drop at s)) (simp (length-take, length-drop) (omega arith))
+pub unlooked : (s : List ℕ) → None ≡ sized s → None ≡ seen s
+unfolding sized seen
+unlooked s e = by (leb 1 (width s)) e
+  where
+    by : (x : Bool) → None ≡ pick x (Some (width s)) None
+        → None ≡ pick x (Some (sight (width s) (parts (scalar (take (width s) s))) (devanagari (scalar (take (width s) s))))) None
+    by true g = absurd (none-some (width s) g)
+    by false g = refl
 
 -- a character of three bytes whose first is E0
 abbrev number_of : ℕ → ℕ → ℕ
@@ -115,67 +110,32 @@ width_three : (b c : ℕ) (s : List ℕ) → within (from_to 0xA0 0xBF) b ≡ tr
 unfolding width opened utf8_char within fits
 width_three b c s e f = rw (e, f)
 
-three : (b c : ℕ) (s : List ℕ) (p d : Bool) → within (from_to 0xA0 0xBF) b ≡ true → within tail c ≡ true → p ≡ parts (number_of b c) → d ≡ devanagari (number_of b c)
-    → record { size = 3; parting = p; deva = d } ≡ seen (0xE0 ∷ b ∷ c ∷ s)
-unfolding seen scalar
-three b c s p d e f q r = rw (width_three b c s e f, q, r)
-
--- । alone parts of U+0940 to U+097F
-danda_here : parts 0x964 ≡ true
+-- । alone parts of U+0900 to U+097F
+mark : (i : ℕ) → i < 128 → eqb i 0x64 ≡ parts (0x900 + i)
 unfolding parts among within white_space punctuation
-danda_here = refl
+mark i h = agree_below_at (λ k. eqb k 0x64) (λ k. parts (0x900 + k)) 128 i refl h
 
-danda_else : (n : ℕ) → 0x940 ≤ n → n < 0x980 → (n ≡ 0x964 → ⊥) → parts n ≡ false
-unfolding white_space punctuation
-danda_else n h k ne =
-    ⊎_elim (λ l. gap 0xA1 0x963 n refl refl (omega arith) (omega arith)) (λ l. gap 0x965 0x167F n refl refl (omega arith) (omega arith)) (below_or_not n 0x964)
+danda : (b c : ℕ) → 0xA4 ≤ b → b ≤ 0xA5 → 0x80 ≤ c → c ≤ 0xBF → (eqb b 0xA5 && eqb c 0xA4) ≡ parts (number_of b c)
+danda b c h k l m =
+    let i = (b - 0xA4) * 64 + (c - 0x80) in
+    let e : 0x900 + i ≡ number_of b c = omega arith in
+    let t : (eqb b 0xA5 && eqb c 0xA4) ≡ eqb i 0x64 = grind (arith, nat_tests) in
+    t ∙ mark i (omega arith) ∙ ap parts e
 
-danda : (n c : ℕ) → n + 0x80 ≡ 0x940 + c → 0x7F < c → c < 0xC0 → eqb c 0xA4 ≡ parts n
-danda n c e l k = by (eqb c 0xA4) refl
-  where
-    by : (x : Bool) → eqb c 0xA4 ≡ x → x ≡ parts n
-    by true t = let q = eqb-true c 0xA4 t in let m : n ≡ 0x964 = omega arith in sym (ap parts m ∙ danda_here)
-    by false t = let q = eqb-false c 0xA4 t in sym (danda_else n (omega arith) (omega arith) (λ m. q (omega arith)))
-
-module _ (s : List ℕ) (at : ℕ) (h : at + 2 < length s) (first : get_or s at 0 ≡ 0xE0) (l : 0x7F < get_or s (at + 2) 0) (k : get_or s (at + 2) 0 < 0xC0) where
-  at_three : drop at s ≡ 0xE0 ∷ get_or s (at + 1) 0 ∷ get_or s (at + 2) 0 ∷ drop (at + 3) s
-  at_three =
-      let p : at + 1 + 1 ≡ at + 2 = omega arith in
-      let q : at + 2 + 1 ≡ at + 3 = omega arith in
-      rw (here s at (omega arith), first, here s (at + 1) (omega arith), p, here s (at + 2) (omega arith), q)
-
-  pub look_letter : get_or s (at + 1) 0 ≡ 0xA4 → record { size = 3; parting = false; deva = true } ≡ seen (drop at s)
-  unfolding white_space punctuation devanagari
-  look_letter e =
-      let b = get_or s (at + 1) 0 in
-      let c = get_or s (at + 2) 0 in
-      let p : parts (number_of b c) ≡ false = gap 0xA1 0x963 (number_of b c) refl refl (omega arith) (omega arith) in
-      let d : devanagari (number_of b c) ≡ true = inside (from_to 0x0900 0x097F) (number_of b c) (omega arith) (omega arith) in
-      rw at_three (three b c (drop (at + 3) s) false true (inside (from_to 0xA0 0xBF) b (omega arith) (omega arith)) (inside tail c (omega arith) (omega arith)) (sym p) (sym d))
-
-  pub look_sign : get_or s (at + 1) 0 ≡ 0xA5 → record { size = 3; parting = eqb (get_or s (at + 2) 0) 0xA4; deva = true } ≡ seen (drop at s)
-  unfolding devanagari
-  look_sign e =
-      let b = get_or s (at + 1) 0 in
-      let c = get_or s (at + 2) 0 in
-      let d : devanagari (number_of b c) ≡ true = inside (from_to 0x0900 0x097F) (number_of b c) (omega arith) (omega arith) in
-      rw at_three
-      (three b c (drop (at + 3) s) (eqb c 0xA4) true (inside (from_to 0xA0 0xBF) b (omega arith) (omega arith)) (inside tail c (omega arith) (omega arith))
-      (danda (number_of b c) c (omega arith) (omega arith) (omega arith)) (sym d))
-
--- a character of one byte
-width_one : (a : ℕ) (s : List ℕ) → a < 0x80 → width (a ∷ s) ≡ 1
-unfolding width opened utf8_char fits
-width_one a s h = rw (inside (from_to 0x00 0x7F) a (omega arith) (omega arith))
-
-single : (a : ℕ) (s : List ℕ) (p : Bool) → a < 0x80 → p ≡ parts a → record { size = 1; parting = p; deva = false } ≡ seen (a ∷ s)
+-- the two short ways
+pub look_three : (s : List ℕ) (p : Bool) → 3 ≤ length s → get_or s 0 0 ≡ 0xE0 → 0xA4 ≤ get_or s 1 0 → get_or s 1 0 ≤ 0xA5 → 0x80 ≤ get_or s 2 0 → get_or s 2 0 ≤ 0xBF
+    → p ≡ (eqb (get_or s 1 0) 0xA5 && eqb (get_or s 2 0) 0xA4) → Some (sight 3 p true) ≡ seen s
 unfolding seen scalar devanagari
-single a s p h e = rw (width_one a s h, below (from_to 0x0900 0x097F) a (omega arith), e)
+look_three [] p h e i j k l m = absurd (omega arith)
+look_three (a ∷ []) p h e i j k l m = absurd (omega arith)
+look_three (a ∷ b ∷ []) p h e i j k l m = absurd (omega arith)
+look_three (a ∷ b ∷ c ∷ s) p h e i j k l m =
+    let w : width (0xE0 ∷ b ∷ c ∷ s) ≡ 3 = width_three b c s (inside (from_to 0xA0 0xBF) b (omega arith) (omega arith)) (inside tail c k l) in
+    let d : devanagari (number_of b c) ≡ true = inside (from_to 0x0900 0x097F) (number_of b c) (omega arith) (omega arith) in
+    rw (e, w, m, danda b c i j k l, d)
 
-pub look_ascii : (s : List ℕ) (at : ℕ) (p : Bool) → at < length s → get_or s at 0 < 0x80 → p ≡ parts (get_or s at 0) → record { size = 1; parting = p; deva = false } ≡ seen (drop at s)
-look_ascii s at p h k e = rw (here s at h) (single (get_or s at 0) (drop (at + 1) s) p k e)
-
--- a character by its size and number
-pub looked : (s : List ℕ) (n c : ℕ) (p d : Bool) → n ≡ width s → c ≡ scalar (take n s) → p ≡ parts c → d ≡ devanagari c → record { size = n; parting = p; deva = d } ≡ seen s
-unfolding seen
-looked s n c p d e f q r = rw (q, r, f, e)
+pub look_ascii : (s : List ℕ) (p : Bool) → 1 ≤ length s → get_or s 0 0 < 0x80 → p ≡ among ascii (get_or s 0 0) → Some (sight 1 p false) ≡ seen s
+unfolding seen scalar devanagari width opened utf8_char fits
+look_ascii [] p h e f = absurd (omega arith)
+look_ascii (a ∷ s) p h e f =
+    rw (inside (from_to 0x00 0x7F) a (omega arith) (omega arith), below (from_to 0x0900 0x097F) a (omega arith), f, ascii_marks a e)

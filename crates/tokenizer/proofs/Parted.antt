@@ -1,106 +1,83 @@
--- Which characters part: the code's masks by one computed test each, and the stretches without such a character by one law over the
--- ranges. The proofs of `ascii_parts`, `is_parting` and `look` cite these. Assumes nothing.
-use Prim.Native.Nat.{ℕ, zero, suc, ◌+◌, ◌-◌, ◌/◌, ◌^◌, ◌≤◌, ◌<◌}
-use native.Mathlib.Nat.{eq-or-lt_of_le, le_of_suc-le-suc}
+-- Which characters part, stretch by stretch: in each stretch the two lists of ranges are the few ranges that the code names, by computed
+-- tests. The proofs of parting.rt and `look` cite these. Assumes nothing.
+use Prim.Native.Nat.{ℕ, zero, suc, ◌+◌, ◌-◌, ◌≤◌, ◌<◌}
 use native.Mathlib.Omega.{arith}
-use mathlib.Core.Path.{◌≡◌, refl, sym, ap, subst, ◌∙◌}
-use mathlib.Core.Logic.{◌⊎◌, inl, inr, ⊎_elim}
+use mathlib.Core.Path.{◌≡◌, refl, sym, ◌∙◌}
+use mathlib.Core.Logic.{⊎_elim}
 use mathlib.Core.Bool.{Bool, true, false, ◌&&◌, ◌||◌}
 use mathlib.Core.List.{List, [], ◌∷◌}
-use lib.Dec.{ltb, eqb}
-use lib.Bits.{bit_and}
-use borrow.Author.Tests.{ltb-true, ltb-false, eqb-true, eqb-false}
-use Rattle.runs.proofs.Begins.{and_left, and_right}
+use lib.Dec.{ltb, leb}
+use borrow.Author.Tests.{leb-true, le-ltb}
+use Rattle.std.proofs.lemmas.Bool.{and_parts, or_cases, cases_eq}
 use Rattle.text.specs.Utf8.{Range, within}
-use Rattle.text.proofs.Ranges.{below, above}
-use Rattle.tokenizer.specs.Parting.{among, white_space, punctuation, parts}
+use Rattle.tokenizer.specs.Marks.{ascii, general}
+use Rattle.tokenizer.specs.Parting.{one, among, white_space, punctuation, parts}
 
-pub below_or_not : (a b : ℕ) → (a < b) ⊎ (b ≤ a)
-below_or_not a b = by (ltb a b) refl
-  where
-    by : (x : Bool) → ltb a b ≡ x → (a < b) ⊎ (b ≤ a)
-    by true e = inl (ltb-true a b e)
-    by false e = inr (ltb-false a b e)
+-- each of n numbers from a on passes
+abbrev each : ℕ → ℕ → (ℕ → Bool) → Bool
+each a zero f = true
+each a (suc n) f = f a && each (suc a) n f
 
--- the test holds for every number below n
-abbrev every : ℕ → (ℕ → Bool) → Bool
-every zero f = true
-every (suc n) f = f n && every n f
+each_at : (a n : ℕ) (f : ℕ → Bool) → each a n f ≡ true → (c : ℕ) → a ≤ c → c < a + n → f c ≡ true
+each_at a zero f e c h k = absurd (omega arith)
+each_at a (suc n) f e c h k =
+    let p = and_parts (f a) (each (suc a) n f) e in
+    ⊎_elim (λ q. rw (← q) p.0) (λ q. each_at (suc a) n f p.1 c (omega arith) (omega arith)) (cases_eq a c)
 
-every_at : (n : ℕ) (f : ℕ → Bool) → every n f ≡ true → (i : ℕ) → i < n → f i ≡ true
-every_at zero f e i h = absurd (omega arith)
-every_at (suc n) f e i h =
-    ⊎_elim (λ q. subst (λ (x : ℕ). f x ≡ true) (sym q) (and_left _ _ e)) (λ k. every_at n f (and_right (f n) _ e) i k) (eq-or-lt_of_le (le_of_suc-le-suc h))
+-- each number in the ranges passes
+abbrev covered : List Range → (ℕ → Bool) → Bool
+covered [] f = true
+covered (r ∷ rs) f = each r.low (suc r.high - r.low) f && covered rs f
 
-abbrev alike : Bool → Bool → Bool
-alike true b = b
-alike false true = false
-alike false false = true
+covered_at : (rs : List Range) (f : ℕ → Bool) → covered rs f ≡ true → (c : ℕ) → among rs c ≡ true → f c ≡ true
+unfolding among within
+covered_at [] f e c m = let z : ◌≡◌ {A = ℕ} 0 1 = cc in absurd (omega arith)
+covered_at (r ∷ rs) f e c m =
+    let p = and_parts (each r.low (suc r.high - r.low) f) (covered rs f) e in
+    ⊎_elim
+    (λ w. let q = and_parts (leb r.low c) (leb c r.high) w in
+    let l = leb-true r.low c q.0 in
+    let k = leb-true c r.high q.1 in
+    each_at r.low (suc r.high - r.low) f p.0 c l (omega arith))
+    (λ w. covered_at rs f p.1 c w)
+    (or_cases (leb r.low c && leb c r.high) (among rs c) m)
 
-alike_same : (a b : Bool) → alike a b ≡ true → a ≡ b
-alike_same true true e = refl
-alike_same true false e = sym e
-alike_same false true e = e
-alike_same false false e = refl
+-- from lo to hi the lists hold what these ranges hold
+abbrev inner : ℕ → ℕ → List Range → ℕ → Bool
+inner lo hi rs c = ltb c lo || ltb hi c || among rs c
 
--- bit i of a mask
-abbrev bit_of : ℕ → ℕ → Bool
-bit_of mask i = eqb (bit_and (mask / (2 ^ i)) 1) 1
+module _ (lo hi : ℕ) (rs : List Range) (w : covered white_space (inner lo hi rs) ≡ true) (p : covered punctuation (inner lo hi rs) ≡ true) (q : covered rs parts ≡ true) where
+  stretch : (c : ℕ) → lo ≤ c → c ≤ hi → parts c ≡ among rs c
+  unfolding parts
+  stretch c h k = by (parts c) (among rs c) refl refl
+    where
+      named : inner lo hi rs c ≡ true → among rs c ≡ true
+      named e = rw (le-ltb c lo h, le-ltb hi c k) at e
 
--- the mask has the bit of each parting character of 64 from `first` on
-module _ (mask first : ℕ) (test : every 64 (λ i. alike (bit_of mask i) (parts (first + i))) ≡ true) where
-  masked : (c : ℕ) → first ≤ c → c < first + 64 → bit_of mask (c - first) ≡ parts c
-  masked c h k =
-      let p : first + (c - first) ≡ c = omega arith in
-      subst (λ (x : ℕ). bit_of mask (c - first) ≡ parts x) p
-      (alike_same _ _ (every_at 64 (λ i. alike (bit_of mask i) (parts (first + i))) test (c - first) (omega arith)))
+      by : (x y : Bool) → parts c ≡ x → among rs c ≡ y → x ≡ y
+      by true y e f =
+          sym (⊎_elim (λ m. named (covered_at white_space (inner lo hi rs) w c m)) (λ m. named (covered_at punctuation (inner lo hi rs) p c m)) (or_cases (among white_space c) (among punctuation c) e)) ∙ f
+      by false true e f = sym e ∙ covered_at rs parts q c f
+      by false false e f = refl
 
-abbrev low_mask : ℕ
-low_mask = 0x8C00F38700003E00
-
-abbrev high_mask : ℕ
-high_mask = 0x2800000028000000
-
-abbrev general_mask : ℕ
-general_mask = 0x8340331807FF
-
-pub low : (c : ℕ) → c < 64 → bit_of low_mask c ≡ parts c
+pub ascii_marks : (c : ℕ) → c < 0x80 → parts c ≡ among ascii c
 unfolding parts among within white_space punctuation
-low c h = let p : c - 0 ≡ c = omega arith in rw p at (masked low_mask 0 refl c (omega arith) (omega arith))
+ascii_marks c h = stretch 0 0x7F ascii refl refl refl c (omega arith) (omega arith)
 
-pub high : (c : ℕ) → 64 ≤ c → c < 128 → bit_of high_mask (c - 64) ≡ parts c
+pub general_marks : (c : ℕ) → 0x2000 ≤ c → c < 0x2040 → parts c ≡ among general c
 unfolding parts among within white_space punctuation
-high c h k = masked high_mask 64 refl c h (omega arith)
+general_marks c h k = stretch 0x2000 0x203F general refl refl refl c h (omega arith)
 
-pub general : (c : ℕ) → 0x2000 ≤ c → c < 0x2040 → bit_of general_mask (c - 0x2000) ≡ parts c
+abbrev pub low : List Range
+low = one 0x85 ∷ one 0xA0 ∷ one 0x964 ∷ one 0x1680 ∷ []
+
+pub low_marks : (c : ℕ) → 0x80 ≤ c → c < 0x2000 → parts c ≡ among low c
 unfolding parts among within white_space punctuation
-general c h k = masked general_mask 0x2000 refl c h (omega arith)
+low_marks c h k = stretch 0x80 0x1FFF low refl refl refl c h (omega arith)
 
--- no range reaches into the stretch from lo to hi
-abbrev pub clear : ℕ → ℕ → List Range → Bool
-clear lo hi [] = true
-clear lo hi (r ∷ rs) = (ltb r.high lo || ltb hi r.low) && clear lo hi rs
+abbrev pub high : List Range
+high = one 0x205F ∷ one 0x3000 ∷ []
 
-either : (a b : Bool) → (a || b) ≡ true → (a ≡ true) ⊎ (b ≡ true)
-either true b e = inl refl
-either false b e = inr e
-
-none-among : (lo hi c : ℕ) (rs : List Range) → clear lo hi rs ≡ true → lo ≤ c → c ≤ hi → among rs c ≡ false
-unfolding among
-none-among lo hi c [] e h k = refl
-none-among lo hi c (r ∷ rs) e h k =
-    let out : within r c ≡ false = ⊎_elim (λ p. let q = ltb-true r.high lo p in above r c (omega arith)) (λ p. let q = ltb-true hi r.low p in below r c (omega arith))
-    (either (ltb r.high lo) (ltb hi r.low) (and_left _ _ e)) in
-    rw out (none-among lo hi c rs (and_right (ltb r.high lo || ltb hi r.low) _ e) h k)
-
-pub gap : (lo hi c : ℕ) → clear lo hi white_space ≡ true → clear lo hi punctuation ≡ true → lo ≤ c → c ≤ hi → parts c ≡ false
-unfolding parts
-gap lo hi c w p h k = rw (none-among lo hi c white_space w h k) (none-among lo hi c punctuation p h k)
-
--- of a stretch of which the first character alone parts
-pub at_point : (p hi c : ℕ) → parts p ≡ true → clear (suc p) hi white_space ≡ true → clear (suc p) hi punctuation ≡ true → p ≤ c → c ≤ hi → eqb c p ≡ parts c
-at_point p hi c t w q h k = by (eqb c p) refl
-  where
-    by : (x : Bool) → eqb c p ≡ x → x ≡ parts c
-    by true e = sym (ap parts (eqb-true c p e) ∙ t)
-    by false e = let ne = eqb-false c p e in sym (gap (suc p) hi c w q (omega arith) k)
+pub high_marks : (c : ℕ) → 0x2040 ≤ c → c < 0x100000000 → parts c ≡ among high c
+unfolding parts among within white_space punctuation
+high_marks c h k = stretch 0x2040 0xFFFFFFFF high refl refl refl c h (omega arith)

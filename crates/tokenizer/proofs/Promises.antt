@@ -1,6 +1,7 @@
 -- What is promised of the tokens of a text (document 02 (a)): every token is listed and nothing besides, in text order, no two
 -- overlapping, so that the list is empty exactly where there is none; no other list does so; a list of 32,768 numbers is always enough;
 -- what is refused leaves the list as it was. Assumes nothing.
+use Rattle.std.specs.Prelude.{Err, Ok}
 use Prim.Native.Nat.{ℕ, zero, suc, ◌+◌, ◌*◌, ◌≤◌, ◌<◌}
 use native.Mathlib.Omega.{arith}
 use mathlib.Core.Path.{◌≡◌, refl, sym, ap, subst, ◌∙◌}
@@ -20,7 +21,6 @@ use Rattle.tokenizer.specs.Answers.{text_limit, tokenized, pairs, listed}
 use Rattle.tokenizer.specs.Stored.{passed}
 use Rattle.refusals.specs.declared.Refusal.{Refusal}
 use Rattle.refusals.specs.declared.Refusal.TheVariants.{TextTooLong, TextNotUtf8, ListTooShort}
-use Rattle.refusals.specs.declared.Written.TheVariants.{Wrote, Refused}
 use Rattle.tokenizer.proofs.Parsed.{read_all, told, told_all, one_way}
 use Rattle.tokenizer.proofs.Edges.{total, has-total, Edged, sound_edges, complete_edges}
 use Rattle.tokenizer.proofs.Longest.{whole, whole_each, whole-bytes, token_edged, edged_token}
@@ -89,12 +89,12 @@ module _ (s : List ℕ) (u : is_utf8 s ≡ true) where
   inside a e m = token_inside (nothing_besides a e m)
 
 -- so 16,384 tokens, 32,768 numbers, are always enough
-pub enough : (s : List ℕ) (room : ℕ) → 32768 ≤ room → tokenized s room ≡ Refused ListTooShort → ⊥
+pub enough : (s : List ℕ) (room : ℕ) → 32768 ≤ room → tokenized s room ≡ Err ListTooShort → ⊥
 unfolding tokenized
 enough s room h e = by (ltb text_limit (length s)) (is_utf8 s) (ltb room (2 * length (tokens_of s))) refl refl refl e
   where
     by : (x y z : Bool) → ltb text_limit (length s) ≡ x → is_utf8 s ≡ y → ltb room (2 * length (tokens_of s)) ≡ z
-        → pick x (Refused TextTooLong) (pick (not y) (Refused TextNotUtf8) (pick z (Refused ListTooShort) (Wrote (length (tokens_of s))))) ≡ Refused ListTooShort → ⊥
+        → pick x (Err TextTooLong) (pick (not y) (Err TextNotUtf8) (pick z (Err ListTooShort) (Ok (length (tokens_of s))))) ≡ Err ListTooShort → ⊥
     by true y z p q r e = let d : ◌≡◌ {A = ℕ} 0 1 = cc in omega arith
     by false false z p q r e = let d : ◌≡◌ {A = ℕ} 0 1 = cc in omega arith
     by false true true p q r e =
@@ -105,17 +105,17 @@ enough s room h e = by (ltb text_limit (length s)) (is_utf8 s) (ltb room (2 * le
     by false true false p q r e = let d : ◌≡◌ {A = ℕ} 0 1 = cc in omega arith
 
 -- a refusal leaves the list as it was
-pub refused-left : (s old : List ℕ) (r : Refusal) → tokenized s (length old) ≡ Refused r → listed s old ≡ old
+pub refused-left : (s old : List ℕ) (r : Refusal) → tokenized s (length old) ≡ Err r → listed s old ≡ old
 unfolding listed
 refused-left s old r e = rw e
 
 -- where the tokens are listed: how many there are, that there is room, and what the list holds
-pub all_listed : (s : List ℕ) (room n : ℕ) → tokenized s room ≡ Wrote n → (n ≡ length (tokens_of s)) × (2 * n ≤ room) × (is_utf8 s ≡ true) × (length s ≤ text_limit)
+pub all_listed : (s : List ℕ) (room n : ℕ) → tokenized s room ≡ Ok n → (n ≡ length (tokens_of s)) × (2 * n ≤ room) × (is_utf8 s ≡ true) × (length s ≤ text_limit)
 unfolding tokenized
 all_listed s room n e = by (ltb text_limit (length s)) (is_utf8 s) (ltb room (2 * length (tokens_of s))) refl refl refl e
   where
     by : (x y z : Bool) → ltb text_limit (length s) ≡ x → is_utf8 s ≡ y → ltb room (2 * length (tokens_of s)) ≡ z
-        → pick x (Refused TextTooLong) (pick (not y) (Refused TextNotUtf8) (pick z (Refused ListTooShort) (Wrote (length (tokens_of s))))) ≡ Wrote n
+        → pick x (Err TextTooLong) (pick (not y) (Err TextNotUtf8) (pick z (Err ListTooShort) (Ok (length (tokens_of s))))) ≡ Ok n
         → (n ≡ length (tokens_of s)) × (2 * n ≤ room) × (is_utf8 s ≡ true) × (length s ≤ text_limit)
     by true y z p q r e = let d : ◌≡◌ {A = ℕ} 0 1 = cc in absurd (omega arith)
     by false false z p q r e = let d : ◌≡◌ {A = ℕ} 0 1 = cc in absurd (omega arith)
@@ -127,22 +127,22 @@ all_listed s room n e = by (ltb text_limit (length s)) (is_utf8 s) (ltb room (2 
         (c, omega arith, q, l)
 
 -- there are at most 16,384
-pub listed-few : (s : List ℕ) (room n : ℕ) → tokenized s room ≡ Wrote n → n ≤ 16384
+pub listed-few : (s : List ℕ) (room n : ℕ) → tokenized s room ≡ Ok n → n ≤ 16384
 listed-few s room n e = let k = all_listed s room n e in let m = at_most s k.2 in omega (arith, k.0, k.3)
 
 -- no other refusal is given
-pub only_three : (s : List ℕ) (room : ℕ) (r : Refusal) → tokenized s room ≡ Refused r → (r ≡ TextTooLong) ⊎ ((r ≡ TextNotUtf8) ⊎ (r ≡ ListTooShort))
+pub only_three : (s : List ℕ) (room : ℕ) (r : Refusal) → tokenized s room ≡ Err r → (r ≡ TextTooLong) ⊎ ((r ≡ TextNotUtf8) ⊎ (r ≡ ListTooShort))
 unfolding tokenized
 only_three s room r e = by (ltb text_limit (length s)) (is_utf8 s) (ltb room (2 * length (tokens_of s))) e
   where
-    by : (x y z : Bool) → pick x (Refused TextTooLong) (pick (not y) (Refused TextNotUtf8) (pick z (Refused ListTooShort) (Wrote (length (tokens_of s))))) ≡ Refused r
+    by : (x y z : Bool) → pick x (Err TextTooLong) (pick (not y) (Err TextNotUtf8) (pick z (Err ListTooShort) (Ok (length (tokens_of s))))) ≡ Err r
         → (r ≡ TextTooLong) ⊎ ((r ≡ TextNotUtf8) ⊎ (r ≡ ListTooShort))
     by true y z e = inl cc
     by false false z e = inr (inl cc)
     by false true true e = inr (inr cc)
     by false true false e = let d : ◌≡◌ {A = ℕ} 0 1 = cc in absurd (omega arith)
 
-module _ (s old : List ℕ) (n : ℕ) (e : tokenized s (length old) ≡ Wrote n) where
+module _ (s old : List ℕ) (n : ℕ) (e : tokenized s (length old) ≡ Ok n) where
   pub listed_all : (is_utf8 s ≡ true) × (n ≡ length (tokens_of s)) × (listed s old ≡ pairs (tokens_of s) ++ drop (2 * n) old)
   unfolding listed
   listed_all =
@@ -171,7 +171,7 @@ pair_of (t ∷ ts) rest (suc i) d h =
     (rw p k.0, rw q k.1)
 
 -- and in the lent list
-pub token_at : (s old : List ℕ) (n : ℕ) → tokenized s (length old) ≡ Wrote n → (i : ℕ) (d : Span) → i < n
+pub token_at : (s old : List ℕ) (n : ℕ) → tokenized s (length old) ≡ Ok n → (i : ℕ) (d : Span) → i < n
     → (get_or (listed s old) (2 * i) 0 ≡ (get_or (tokens_of s) i d).start) × (get_or (listed s old) (2 * i + 1) 0 ≡ (get_or (tokens_of s) i d).end)
 token_at s old n e i d h =
     let k = listed_all s old n e in

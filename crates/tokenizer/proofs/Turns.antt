@@ -6,19 +6,21 @@ use native.Mathlib.Omega.{arith}
 use mathlib.Core.Path.{◌≡◌, refl, sym, ap, ◌∙◌}
 use mathlib.Core.Bool.{Bool, true, false, ◌&&◌, ◌||◌}
 use mathlib.Core.List.{List, [], ◌∷◌}
-use lib.ListN.{length, take, drop, get_or, drop_of_length-le, set}
+use lib.ListN.{length, take, drop, drop_of_length-le, length-drop, set}
 use lib.Seq.{drop-drop}
-use borrow.Author.Tests.{le-leb, le-ltb, lt-ltb}
+use borrow.Author.Tests.{le-leb, le-ltb, lt-ltb, leb-true, leb-false}
+use Rattle.std.proofs.lemmas.Option.{none-some, same_Some}
+use Rattle.std.specs.declared.option.Option.TheVariants.{Some, None}
+use lib.Dec.{leb}
 use Rattle.runs.specs.Runs.{pick}
 use Rattle.text.specs.Utf8.{Range, within, utf8_char, Owed, owes, misfit, opened, after, run, whole, is_utf8}
 use Rattle.tokenizer.specs.Scalars.{scalar}
 use Rattle.tokenizer.specs.Parting.{parts, devanagari}
 use Rattle.tokenizer.specs.Tokens.{Span, span}
 use Rattle.tokenizer.specs.Scanned.{fits, width_by, width, Chars, finished, broken, char, chars_from, kept, scan, tokens_of}
-use Rattle.tokenizer.specs.Looked.{seen}
+use Rattle.tokenizer.specs.Looked.{sight, seen}
 use Rattle.tokenizer.specs.declared.seen.Seen.{Seen}
-use Rattle.tokenizer.specs.Stored.{put, stored, Ended}
-use Rattle.tokenizer.proofs.Looks.{here}
+use Rattle.tokenizer.specs.Stored.{put, stored, counted, Ended}
 
 -- what the bytes of a begun character leave
 fits-run : (rs : List Range) (s : List ℕ) → fits rs s ≡ true → run (owes rs) s ≡ run (owes []) (drop (length rs) s)
@@ -87,44 +89,54 @@ chars-none : (b : ℕ) (s : List ℕ) → width (b ∷ s) ≡ 0 → chars_from 0
 unfolding chars_from
 chars-none b s e = rw e
 
-char_same : {n n' : ℕ} {p p' d d' : Bool} {cs cs' : Chars} → n ≡ n' → p ≡ p' → d ≡ d' → cs ≡ cs' → char n p d cs ≡ char n' p' d' cs'
-char_same a b c d = cc
+-- a character that is met, or none where the text goes on
+met : (t : List ℕ) (r : Seen) → Some r ≡ seen t → (r ≡ sight (width t) (parts (scalar (take (width t) t))) (devanagari (scalar (take (width t) t)))) × (1 ≤ width t)
+unfolding seen
+met t r e = by (leb 1 (width t)) refl e
+  where
+    it : Seen
+    it = sight (width t) (parts (scalar (take (width t) t))) (devanagari (scalar (take (width t) t)))
 
-module _ (s : List ℕ) (at : ℕ) (r : Seen) (h : at < length s) (e : r ≡ seen (drop at s)) where
-  size_is : r.size ≡ width (get_or s at 0 ∷ drop (at + 1) s)
-  unfolding seen
-  size_is = ap (λ (x : Seen). x.size) e ∙ ap width (here s at h)
+    by : (x : Bool) → leb 1 (width t) ≡ x → Some r ≡ pick x (Some it) None → (r ≡ it) × (1 ≤ width t)
+    by true f g = (same_Some r it g, leb-true 1 (width t) f)
+    by false f g = absurd (none-some r (sym g))
 
-  rest_is : (r.size ≡ 0 → ⊥) → drop (width (get_or s at 0 ∷ drop (at + 1) s) - 1) (drop (at + 1) s) ≡ drop (at + r.size) s
-  rest_is ne =
-      let q = size_is in
-      let p : at + 1 + (width (get_or s at 0 ∷ drop (at + 1) s) - 1) ≡ at + r.size = omega arith in
-      drop-drop (width (get_or s at 0 ∷ drop (at + 1) s) - 1) (at + 1) s ∙ ap (λ (x : ℕ). drop x s) p
+unmet : (t : List ℕ) → None ≡ seen t → width t ≡ 0
+unfolding seen
+unmet t e = by (leb 1 (width t)) refl e
+  where
+    by : (x : Bool) → leb 1 (width t) ≡ x → None ≡ pick x (Some (sight (width t) (parts (scalar (take (width t) t))) (devanagari (scalar (take (width t) t))))) None → width t ≡ 0
+    by true f g = absurd (none-some _ g)
+    by false f g = let k = leb-false 1 (width t) f in omega arith
 
-  abbrev front : List ℕ
-  front = get_or s at 0 ∷ drop (at + 1) s
+drop_one : (n b : ℕ) (s : List ℕ) → 1 ≤ n → drop (n - 1) s ≡ drop n (b ∷ s)
+drop_one zero b s h = absurd (omega arith)
+drop_one (suc n) b s h = let e : suc n - 1 ≡ n = omega arith in rw e
 
-  parting_is : r.parting ≡ parts (scalar (take (width front) front))
-  unfolding seen
-  parting_is = ap (λ (x : Seen). x.parting) e ∙ ap (λ (x : List ℕ). parts (scalar (take (width x) x))) (here s at h)
+chars_front : (t : List ℕ) → 1 ≤ width t → chars_from 0 t ≡ char (width t) (parts (scalar (take (width t) t))) (devanagari (scalar (take (width t) t))) (chars_from 0 (drop (width t) t))
+unfolding width
+chars_front [] h = absurd (omega arith)
+chars_front (b ∷ s) h = rw (← drop_one (width (b ∷ s)) b s h) (chars-one b s (λ z. omega arith))
 
-  deva_is : r.deva ≡ devanagari (scalar (take (width front) front))
-  unfolding seen
-  deva_is = ap (λ (x : Seen). x.deva) e ∙ ap (λ (x : List ℕ). devanagari (scalar (take (width x) x))) (here s at h)
+utf8_front : (t : List ℕ) → 1 ≤ width t → is_utf8 t ≡ is_utf8 (drop (width t) t)
+unfolding width
+utf8_front [] h = absurd (omega arith)
+utf8_front (b ∷ s) h = rw (← drop_one (width (b ∷ s)) b s h) (front-some b s (λ z. omega arith))
 
-  pub chars_next : (r.size ≡ 0 → ⊥) → chars_from 0 (drop at s) ≡ char r.size r.parting r.deva (chars_from 0 (drop (at + r.size) s))
-  chars_next ne =
-      ap (chars_from 0) (here s at h) ∙ chars-one (get_or s at 0) (drop (at + 1) s) (λ z. ne (size_is ∙ z))
-      ∙ char_same (sym size_is) (sym parting_is) (sym deva_is) (ap (chars_from 0) (rest_is ne))
+module _ (t : List ℕ) (r : Seen) (e : Some r ≡ seen t) where
+  chars_met : chars_from 0 t ≡ char r.size r.parting r.deva (chars_from 0 (drop r.size t))
+  chars_met = let m = met t r e in rw m.0 (chars_front t m.1)
 
-  pub utf8_next : (r.size ≡ 0 → ⊥) → is_utf8 (drop at s) ≡ is_utf8 (drop (at + r.size) s)
-  utf8_next ne = ap is_utf8 (here s at h) ∙ front-some (get_or s at 0) (drop (at + 1) s) (λ z. ne (size_is ∙ z)) ∙ ap is_utf8 (rest_is ne)
+  utf8_met : is_utf8 t ≡ is_utf8 (drop r.size t)
+  utf8_met = let m = met t r e in rw m.0 (utf8_front t m.1)
 
-  pub chars-broken : r.size ≡ 0 → chars_from 0 (drop at s) ≡ broken
-  chars-broken z = ap (chars_from 0) (here s at h) ∙ chars-none (get_or s at 0) (drop (at + 1) s) (sym size_is ∙ z)
+chars_unmet : (t : List ℕ) → None ≡ seen t → 0 < length t → chars_from 0 t ≡ broken
+chars_unmet [] e h = absurd (omega arith)
+chars_unmet (b ∷ s) e h = chars-none b s (unmet (b ∷ s) e)
 
-  pub utf8_broken : r.size ≡ 0 → is_utf8 (drop at s) ≡ false
-  utf8_broken z = ap is_utf8 (here s at h) ∙ front-none (get_or s at 0) (drop (at + 1) s) (sym size_is ∙ z)
+utf8_unmet : (t : List ℕ) → None ≡ seen t → 0 < length t → is_utf8 t ≡ false
+utf8_unmet [] e h = absurd (omega arith)
+utf8_unmet (b ∷ s) e h = front-none b s (unmet (b ∷ s) e)
 
 pub chars-end : (s : List ℕ) (at : ℕ) → length s ≤ at → chars_from 0 (drop at s) ≡ finished
 unfolding chars_from
@@ -187,38 +199,48 @@ unfolding tokens_of
 going_start s old = record { whole8 = refl; counted = zero-add _; kept8 = refl }
 
 module _ {s old list : List ℕ} {at start n : ℕ} {held : Bool} (g : Going s old list at start held n) where
-  module _ (r : Seen) (h : at < length s) (e : r ≡ seen (drop at s)) (ne : r.size ≡ 0 → ⊥) where
+  module _ (r : Seen) (e : Some r ≡ seen (drop at s)) where
+    rest_is : drop r.size (drop at s) ≡ drop (at + r.size) s
+    rest_is = drop-drop r.size at s
+
+    chars_on : chars_from 0 (drop at s) ≡ char r.size r.parting r.deva (chars_from 0 (drop (at + r.size) s))
+    chars_on = chars_met (drop at s) r e ∙ ap (λ (x : List ℕ). char r.size r.parting r.deva (chars_from 0 x)) rest_is
+
+    whole_on : is_utf8 s ≡ is_utf8 (drop (at + r.size) s)
+    whole_on = g.whole8 ∙ utf8_met (drop at s) r e ∙ ap is_utf8 rest_is
+
     pub going_parts : {new : List ℕ} {m : ℕ} → r.parting ≡ true → Ended list new n m held start at → Going s old new (at + r.size) (at + r.size) false m
     going_parts t d =
-        let q = scan-parts start at held _ _ _ _ _ (chars_next s at r h e ne) t in
+        let q = scan-parts start at held _ _ _ _ _ chars_on t in
         record {
-          whole8 = g.whole8 ∙ utf8_next s at r h e ne;
+          whole8 = whole_on;
           counted = d.counting _ ∙ sym (ap (λ (x : List Span). n + length x) q) ∙ g.counted;
           kept8 = d.storing _ ∙ sym (ap (stored list n) q) ∙ g.kept8;
         }
 
     pub going_on : (b : Bool) → r.parting ≡ false → b ≡ (held || r.deva) → Going s old list (at + r.size) start b n
     going_on b t f =
-        let q = scan_goes start at held _ _ _ _ _ (chars_next s at r h e ne) t in
+        let q = scan_goes start at held _ _ _ _ _ chars_on t in
         record {
-          whole8 = g.whole8 ∙ utf8_next s at r h e ne;
+          whole8 = whole_on;
           counted = rw f (sym (ap (λ (x : List Span). n + length x) q) ∙ g.counted);
           kept8 = rw f (sym (ap (stored list n) q) ∙ g.kept8);
         }
 
-  pub going_broken : (r : Seen) → at < length s → r ≡ seen (drop at s) → r.size ≡ 0
-      → (false ≡ is_utf8 s) × (n ≡ length (tokens_of s)) × (list ≡ stored old 0 (tokens_of s))
-  unfolding stored
-  going_broken r h e z =
-      let q = scan-broken start at held _ (chars-broken s at r h e z) in
-      (sym (g.whole8 ∙ utf8_broken s at r h e z), sym (add-zero n) ∙ sym (ap (λ (x : List Span). n + length x) q) ∙ g.counted, sym (ap (stored list n) q) ∙ g.kept8)
+  pub going_broken : at < length s → None ≡ seen (drop at s)
+      → (None ≡ counted s) × (list ≡ stored old 0 (tokens_of s))
+  unfolding counted stored
+  going_broken h e =
+      let l : 0 < length (drop at s) = simp length-drop (omega arith) in
+      let q = scan-broken start at held _ (chars_unmet (drop at s) e l) in
+      let w : is_utf8 s ≡ false = g.whole8 ∙ utf8_unmet (drop at s) e l in
+      (rw w, sym (ap (stored list n) q) ∙ g.kept8)
 
   pub going_end : {new : List ℕ} {m : ℕ} → length s ≤ at → Ended list new n m held start at
-      → (true ≡ is_utf8 s) × (m ≡ length (tokens_of s)) × (new ≡ stored old 0 (tokens_of s))
-  unfolding stored
+      → (Some m ≡ counted s) × (new ≡ stored old 0 (tokens_of s))
+  unfolding counted stored
   going_end {new} {m} h d =
-      let q = scan-end start at held _ (chars-end s at h) in (
-        sym (g.whole8 ∙ utf8_end s at h),
-        sym (add-zero m) ∙ d.counting [] ∙ sym (ap (λ (x : List Span). n + length x) q) ∙ g.counted,
-        d.storing [] ∙ sym (ap (stored list n) q) ∙ g.kept8,
-      )
+      let q = scan-end start at held _ (chars-end s at h) in
+      let w : is_utf8 s ≡ true = g.whole8 ∙ utf8_end s at h in
+      let k : m ≡ length (tokens_of s) = sym (add-zero m) ∙ d.counting [] ∙ sym (ap (λ (x : List Span). n + length x) q) ∙ g.counted in
+      (rw (w, k), d.storing [] ∙ sym (ap (stored list n) q) ∙ g.kept8)

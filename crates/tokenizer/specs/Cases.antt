@@ -1,9 +1,8 @@
 -- Worked cases: texts with a list, the number that is answered (0 for none) with the count of tokens, and what the list holds then. Every character that parts stands here, between two
 -- letters, and neighbours of each that do not. Assumes nothing.
-use Rattle.std.specs.Prelude.{ℕ, ◌+◌, List, [], ◌∷◌, ◌++◌, length, replicate}
+use Rattle.refusals.specs.declared.Refusal.{Refusal}
+use Rattle.std.specs.Prelude.{ℕ, ◌+◌, List, [], ◌∷◌, ◌++◌, length, replicate, Err, Ok, Result}
 use Rattle.refusals.specs.Refusals.{number}
-use Rattle.refusals.specs.declared.Written.{Written}
-use Rattle.refusals.specs.declared.Written.TheVariants.{Wrote, Refused}
 
 pub record Case : Type 0 where
   pub text : List ℕ
@@ -16,13 +15,13 @@ abbrev pub case : List ℕ → List ℕ → ℕ → ℕ → List ℕ → Case
 case t l n c x = record { text = t; list = l; number = n; count = c; after = x }
 
 -- the number that is given, 0 for none, and the count
-abbrev pub number_of : Written → ℕ
-number_of (Wrote n) = 0
-number_of (Refused r) = number r
+abbrev pub number_of : Result ℕ Refusal → ℕ
+number_of (Ok n) = 0
+number_of (Err r) = number r
 
-abbrev pub count_of : Written → ℕ
-count_of (Wrote n) = n
-count_of (Refused r) = 0
+abbrev pub count_of : Result ℕ Refusal → ℕ
+count_of (Ok n) = n
+count_of (Err r) = 0
 
 -- क, ॥, ।, U+200D, and a list whose old numbers are told from any place
 abbrev pub ka : List ℕ

@@ -8,3 +8,4 @@ pub mod Cases
 pub mod Scanned
 pub mod Looked
 pub mod Stored
+pub mod Marks

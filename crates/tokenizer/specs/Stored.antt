@@ -1,7 +1,8 @@
 -- What a list of numbers holds after tokens were written to it one by one, as many as there is room for: what the pass over a text
 -- leaves, for every text and every list. Assumes nothing.
-use Rattle.std.specs.Prelude.{ℕ, ◌+◌, ◌*◌, ◌≤◌, ◌≡◌, Bool, List, [], ◌∷◌, length, set, ltb}
+use Rattle.std.specs.Prelude.{ℕ, ◌+◌, ◌*◌, ◌≤◌, ◌≡◌, Bool, List, [], ◌∷◌, Option, Some, None, length, set, ltb}
 use Rattle.runs.specs.Runs.{pick}
+use Rattle.text.specs.Utf8.{is_utf8}
 use Rattle.tokenizer.specs.Tokens.{Span}
 use Rattle.tokenizer.specs.Scanned.{kept, tokens_of}
 use Rattle.tokenizer.specs.Answers.{text_limit}
@@ -18,6 +19,10 @@ stored old k (t ∷ ts) = stored (put old k t) (k + 1) ts
 -- what a list of the caller's own holds after the pass over s; a text that is too long is not looked at
 unfoldable pub passed : List ℕ → List ℕ → List ℕ
 passed s old = pick (ltb text_limit (length s)) old (stored old 0 (tokens_of s))
+
+-- how many tokens s has, where it is UTF-8
+unfoldable pub counted : List ℕ → Option ℕ
+counted s = pick (is_utf8 s) (Some (length (tokens_of s))) None
 
 -- a run from byte a up to byte e has ended after n tokens: it is stored where it is held, and m tokens are counted then
 pub record Ended (old new : List ℕ) (n m : ℕ) (held : Bool) (a e : ℕ) : Type 0 where

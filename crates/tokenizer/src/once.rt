@@ -4,23 +4,22 @@ ghost use Rattle.tokenizer.specs.Answers.{tokenized};
 ghost use Rattle.tokenizer.specs.Stored.{passed};
 
 use crate::walk::walk;
-use refusals::{Refusal, Written};
+use refusals::Refusal;
 
 // The tokens of the text, in a list of the caller's own: start and end of each, one after the other. One pass over the text, which
 // writes as it goes: where anything but 9 is refused, the list holds the tokens that were passed, as many as there was room for.
-pub fn tokenize_in(text: &[u8], list: &mut [u32]) -> Written
+pub fn tokenize_in(text: &[u8], list: &mut [u32]) -> Result<usize, Refusal>
     ensures { (result ≡ tokenized text.now (length list.old))
         × (list.new ≡ passed text.now list.old) }
 {
     if 65536 < text.len() {
-        return Written::Refused(Refusal::TextTooLong);
+        return Err(Refusal::TextTooLong);
     }
-    let walked = walk(text, list);
-    if !walked.whole {
-        return Written::Refused(Refusal::TextNotUtf8);
+    let Some(count) = walk(text, list) else {
+        return Err(Refusal::TextNotUtf8);
+    };
+    if list.len() < 2 * count {
+        return Err(Refusal::ListTooShort);
     }
-    if list.len() < 2 * walked.count {
-        return Written::Refused(Refusal::ListTooShort);
-    }
-    Written::Wrote(walked.count)
+    Ok(count)
 }

@@ -1,13 +1,12 @@
-// The character that stands at a place of a text.
-ghost use Rattle.std.specs.Prelude.{◌≡◌, ◌+◌, ◌-◌, ◌≤◌, ◌<◌, length, take, drop, get_or};
+// The character that stands at the front of a text.
+ghost use Rattle.std.specs.Prelude.{◌≡◌, ◌-◌, ◌≤◌, ◌<◌, length, IfSome};
 ghost use Rattle.tokenizer.specs.Scalars.{scalar};
-ghost use Rattle.tokenizer.specs.Scanned.{width};
-ghost use Rattle.tokenizer.specs.Looked.{seen};
+ghost use Rattle.tokenizer.specs.Looked.{sized, seen};
 
 use crate::parting::{ascii_parts, is_devanagari, is_parting};
-use text::utf8::{is_whole, next, open};
+use text::utf8::{State, is_whole, next};
 
-// How many bytes a character has, 0 where none stands; whether it parts; whether it is one of U+0900 to U+097F.
+// How many bytes a character has; whether it parts; whether it is one of U+0900 to U+097F.
 #[derive(Clone, Copy)]
 pub(crate) struct Seen {
     pub(crate) size: usize,
@@ -15,110 +14,77 @@ pub(crate) struct Seen {
     pub(crate) deva: bool,
 }
 
-// How many bytes the character at `at` has; 0 where none stands there.
-fn size_at(text: &[u8], at: usize) -> usize
-    requires { at < length text.now }
-    ensures { (result ≡ width (drop at text.now)) × (at + result ≤ length text.now) }
+// How many bytes the character at the front of s has, where one stands there.
+#[tactic(auto, using(crate::proofs::Looks::size_start, crate::proofs::Looks::size_goes, crate::proofs::Looks::size_some, crate::proofs::Looks::size_none))]
+fn size_of(s: &[u8]) -> Option<usize>
+    ensures value { result ≡ sized s.now }
+    ensures bound { IfSome result (λ n. (0 < n) × (n ≤ length s.now)) }
 {
-    let mut state = open(text[at]);
-    let mut n: usize = 1;
-    while !is_whole(state) {
-        if text.len() - at <= n {
-            return 0;
+    let mut state = State::Nothing;
+    for k in 0..s.len() {
+        state = next(state, s[k]);
+        if is_whole(state) {
+            return Some(k + 1);
         }
-        state = next(state, text[at + n]);
-        n += 1;
     }
-    n
+    None
+}
+
+// The number of a character, from the bits that its bytes hold.
+#[tactic(auto, unfolding(crate::specs::Scalars::scalar))]
+fn number_of(character: &[u8]) -> u32
+    ensures { result ≡ scalar character.now }
+{
+    match *character {
+        [a] => a as u32,
+        [a, b] => over(a, 0xC0) * 64 + over(b, 0x80),
+        [a, b, c] => over(a, 0xE0) * 4096 + over(b, 0x80) * 64 + over(c, 0x80),
+        [a, b, c, d] => {
+            over(a, 0xF0) * 262144 + over(b, 0x80) * 4096 + over(c, 0x80) * 64 + over(d, 0x80)
+        }
+        _ => 0,
+    }
 }
 
 // What b holds above `low`.
 fn over(b: u8, low: u8) -> u32
     ensures { (result ≡ b - low) × (result < 256) }
 {
-    if b < low {
-        return 0;
-    }
-    (b - low) as u32
+    b.saturating_sub(low) as u32
 }
 
-// The number of the character of n bytes at `at`.
-fn number_at(text: &[u8], at: usize, n: usize) -> u32
-    requires { at + n ≤ length text.now }
-    ensures { result ≡ scalar (take n (drop at text.now)) }
+// The character at the front of s, whichever it is.
+#[tactic(auto, using(crate::proofs::Looks::looked, crate::proofs::Looks::unlooked))]
+fn look_wide(s: &[u8]) -> Option<Seen>
+    ensures value { result ≡ seen s.now }
+    ensures bound { IfSome result (λ c. (0 < c.size) × (c.size ≤ length s.now)) }
 {
-    if n == 0 {
-        return 0;
-    }
-    let a = text[at];
-    if n == 1 {
-        return a as u32;
-    }
-    let b = text[at + 1];
-    if n == 2 {
-        return over(a, 0xC0) * 64 + over(b, 0x80);
-    }
-    let c = text[at + 2];
-    if n == 3 {
-        return over(a, 0xE0) * 4096 + over(b, 0x80) * 64 + over(c, 0x80);
-    }
-    let d = text[at + 3];
-    if n == 4 {
-        return over(a, 0xF0) * 262144 + over(b, 0x80) * 4096 + over(c, 0x80) * 64 + over(d, 0x80);
-    }
-    0
-}
-
-// The character at `at`, whichever it is.
-fn look_wide(text: &[u8], at: usize) -> Seen
-    requires { at < length text.now }
-    ensures { (result ≡ seen (drop at text.now)) × (at + result.size ≤ length text.now) }
-{
-    let size = size_at(text, at);
-    let c = number_at(text, at, size);
-    Seen {
+    let size = size_of(s)?;
+    let c = number_of(&s[..size]);
+    Some(Seen {
         size,
         parting: is_parting(c),
         deva: is_devanagari(c),
-    }
+    })
 }
 
-// The character at `at`. Most are of three bytes, E0 and then A4 or A5, or of one.
-pub(crate) fn look(text: &[u8], at: usize) -> Seen
-    requires { at < length text.now }
-    ensures { (result ≡ seen (drop at text.now)) × (at + result.size ≤ length text.now) }
+// The character at the front of s. Most are of three bytes, E0 and then A4 or A5, or of one.
+#[tactic(auto, using(crate::proofs::Looks::look_three, crate::proofs::Looks::look_ascii))]
+pub(crate) fn look(s: &[u8]) -> Option<Seen>
+    ensures value { result ≡ seen s.now }
+    ensures bound { IfSome result (λ c. (0 < c.size) × (c.size ≤ length s.now)) }
 {
-    let a = text[at];
-    if a == 0xE0 {
-        if 2 < text.len() - at {
-            let b = text[at + 1];
-            let c = text[at + 2];
-            if 0x7F < c {
-                if c < 0xC0 {
-                    if b == 0xA4 {
-                        return Seen {
-                            size: 3,
-                            parting: false,
-                            deva: true,
-                        };
-                    }
-                    if b == 0xA5 {
-                        return Seen {
-                            size: 3,
-                            parting: c == 0xA4,
-                            deva: true,
-                        };
-                    }
-                }
-            }
-        }
-    }
-    if a < 0x80 {
-        return Seen {
+    match *s {
+        [0xE0, b @ 0xA4..=0xA5, c @ 0x80..=0xBF, ..] => Some(Seen {
+            size: 3,
+            parting: b == 0xA5 && c == 0xA4,
+            deva: true,
+        }),
+        [a @ 0x00..=0x7F, ..] => Some(Seen {
             size: 1,
             parting: ascii_parts(a),
             deva: false,
-        };
+        }),
+        _ => look_wide(s),
     }
-    look_wide(text, at)
 }

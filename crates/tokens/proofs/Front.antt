@@ -1,4 +1,5 @@
 -- What is printed of a text is printed of its front up to one byte past the limit: a longer one is refused. Assumes nothing.
+use Rattle.std.specs.Prelude.{Err}
 use Rattle.std.proofs.Common.{◌≡◌, ℕ, ◌<◌, Bool, true, false, List, length, take}
 use Rattle.std.proofs.lemmas.List.{take_all, length-take-le}
 use native.Mathlib.Omega.{arith}
@@ -7,12 +8,11 @@ use lib.Dec.{ltb}
 use borrow.Author.Tests.{lt-ltb, ltb-true, ltb-false}
 use Rattle.refusals.specs.Refusals.{numbers_of}
 use Rattle.refusals.specs.declared.Refusal.TheVariants.{TextTooLong}
-use Rattle.refusals.specs.declared.Written.TheVariants.{Refused}
 use Rattle.writing.specs.Refused.{refused_text}
 use Rattle.tokenizer.specs.Answers.{text_limit, tokenized}
 use Rattle.tokens.specs.Printed.{printed}
 
-long : (s : List ℕ) → text_limit < length s → tokenized s 32768 ≡ Refused TextTooLong
+long : (s : List ℕ) → text_limit < length s → tokenized s 32768 ≡ Err TextTooLong
 unfolding tokenized
 long s h = rw (lt-ltb text_limit (length s) h) refl
 

@@ -1,16 +1,15 @@
 -- Lines of a list that holds starts and ends, one after the other: one turn, the end, and that they are the tokens' lines; and how long
 -- they are. The proofs of lines.rt cite these. Assumes nothing.
-use Prim.Native.Nat.{ℕ, suc, ◌+◌, ◌*◌, ◌≤◌, ◌<◌}
+use Rattle.std.specs.Prelude.{Err, Ok, Result}
+use Prim.Native.Nat.{ℕ, ◌*◌, ◌/◌, ◌≤◌, ◌<◌}
 use native.Mathlib.Omega.{arith}
 use mathlib.Core.Path.{◌≡◌, refl, sym, ap, subst, ◌∙◌}
 use mathlib.Core.Logic.{◌⊎◌, inl, inr}
 use mathlib.Core.List.{List, [], ◌∷◌, ◌++◌, Memᴰ}
-use lib.ListN.{length, take, drop, get_or, length-append, drop_of_length-le}
-use lib.Seq.{length-take-le, drop-cons, get_or-take, take_at}
+use lib.ListN.{length, take, drop, get_or, length-append}
+use lib.Seq.{take_at}
 use Rattle.refusals.specs.declared.Refusal.{Refusal}
 use Rattle.refusals.specs.declared.Refusal.TheVariants.{TextTooLong, TextNotUtf8, ListTooShort}
-use Rattle.refusals.specs.declared.Written.{Written}
-use Rattle.refusals.specs.declared.Written.TheVariants.{Wrote, Refused}
 use Rattle.refusals.specs.Refusals.{numbers_of}
 use Rattle.writing.specs.Refused.{refused_text}
 use Rattle.writing.proofs.Sizes.{count-size, number_size}
@@ -22,46 +21,40 @@ use Rattle.tokenizer.proofs.Promises.{all_listed, listed-few, inside, listed_all
 use Rattle.tokens.specs.Printed.{token_line, token_lines, tokens_text, printed_by, printed}
 use Rattle.tokens.specs.Lines.{lines_of, list_text}
 
-module _ (list : List ℕ) (count : ℕ) (h : 2 * count ≤ length list) where
-  front_length : length (take (2 * count) list) ≡ 2 * count
-  front_length = length-take-le (2 * count) list h
+pub lines_turn : (list : List ℕ) → 2 ≤ length list → lines_of list ≡ token_line (get_or list 0 0) (get_or list 1 0) ++ lines_of (drop 2 list)
+unfolding lines_of
+lines_turn [] h = absurd (omega arith)
+lines_turn (a ∷ []) h = absurd (omega arith)
+lines_turn (a ∷ e ∷ rest) h = refl
 
-  pub lines_turn : (i : ℕ) → i < count
-      → lines_of (drop (2 * i) (take (2 * count) list)) ≡ token_line (get_or list (2 * i) 0) (get_or list (2 * i + 1) 0) ++ lines_of (drop (2 * (i + 1)) (take (2 * count) list))
-  unfolding lines_of
-  lines_turn i k =
-      let l = front_length in
-      let p : suc (2 * i) ≡ 2 * i + 1 = omega arith in
-      let q : suc (2 * i + 1) ≡ 2 * (i + 1) = omega arith in
-      rw (drop-cons (take (2 * count) list) (2 * i) 0 (omega arith), p, drop-cons (take (2 * count) list) (2 * i + 1) 0 (omega arith), q, get_or-take (2 * count) list (2 * i) 0 (omega arith), get_or-take (2 * count) list (2 * i + 1) 0 (omega arith))
-
-  pub lines_end : (i : ℕ) → count ≤ i → lines_of (drop (2 * i) (take (2 * count) list)) ≡ []
-  unfolding lines_of
-  lines_end i k =
-      let l = front_length in
-      let o : length (take (2 * count) list) ≤ 2 * i = omega arith in
-      rw (drop_of_length-le (take (2 * count) list) o)
+pub lines_end : (list : List ℕ) → length list < 2 → lines_of list ≡ []
+unfolding lines_of
+lines_end [] h = refl
+lines_end (a ∷ []) h = refl
+lines_end (a ∷ e ∷ rest) h = absurd (omega arith)
 
 lines-pairs : (ts : List Span) → lines_of (pairs ts) ≡ token_lines ts
 unfolding lines_of pairs token_lines
 lines-pairs [] = refl
 lines-pairs (t ∷ ts) = ap (λ (x : List ℕ). token_line t.start t.end ++ x) (lines-pairs ts)
 
-list-text : (ts : List Span) (rest : List ℕ) → list_text (length ts) (pairs ts ++ rest) ≡ tokens_text ts
+list-text : (ts : List Span) → list_text (pairs ts) ≡ tokens_text ts
 unfolding list_text tokens_text
-list-text ts rest = rw (take_at (pairs ts) rest (2 * length ts) (pairs-length ts), lines-pairs ts)
+list-text ts = let n : length (pairs ts) / 2 ≡ length ts = omega (arith, pairs-length ts) in rw (n, lines-pairs ts)
 
 -- what is printed: the tokens' lines, or the refusal's
-pub printed-list : (s old list : List ℕ) (n : ℕ) → length old ≡ 32768 → Wrote n ≡ tokenized s (length old) → list ≡ listed s old → list_text n list ≡ printed s
+pub printed_list : (s old list : List ℕ) (n : ℕ) → length old ≡ 32768 → Ok n ≡ tokenized s (length old) → list ≡ listed s old → list_text (take (2 * n) list) ≡ printed s
 unfolding printed
-printed-list s old list n l e f =
+printed_list s old list n l e f =
     let k = listed_all s old n (sym e) in
-    let w : tokenized s 32768 ≡ Wrote n = ap (tokenized s) (sym l) ∙ sym e in
-    ap (list_text n) (f ∙ k.2) ∙ ap (λ (x : ℕ). list_text x (pairs (tokens_of s) ++ drop (2 * n) old)) k.1 ∙ list-text (tokens_of s) (drop (2 * n) old) ∙ sym (ap (λ (x : Written). printed_by x (tokens_of s)) w)
+    let w : tokenized s 32768 ≡ Ok n = ap (tokenized s) (sym l) ∙ sym e in
+    let p : length (pairs (tokens_of s)) ≡ 2 * n = omega (arith, pairs-length (tokens_of s), k.1) in
+    ap list_text (ap (take (2 * n)) (f ∙ k.2) ∙ take_at (pairs (tokens_of s)) (drop (2 * n) old) (2 * n) p) ∙ list-text (tokens_of s)
+    ∙ sym (ap (λ (x : Result ℕ Refusal). printed_by x (tokens_of s)) w)
 
-pub printed-refused : (s : List ℕ) (room : ℕ) (r : Refusal) → room ≡ 32768 → Refused r ≡ tokenized s room → refused_text (numbers_of r) ≡ printed s
+pub printed_refused : (s : List ℕ) (room : ℕ) (r : Refusal) → room ≡ 32768 → Err r ≡ tokenized s room → refused_text (numbers_of r) ≡ printed s
 unfolding printed
-printed-refused s room r l e = ap (λ (x : Written). printed_by x (tokens_of s)) (e ∙ ap (tokenized s) l)
+printed_refused s room r l e = ap (λ (x : Result ℕ Refusal). printed_by x (tokens_of s)) (e ∙ ap (tokenized s) l)
 
 -- how long it is: 16 bytes for each token at most, and 13 before them
 line-size : (a e : ℕ) → a < 100000 → e < 100000 → length (token_line a e) ≤ 16
@@ -91,12 +84,12 @@ line-short : (n : ℕ) → n < 100 → length (refused_text (n ∷ [])) ≤ 2621
 unfolding refused_text
 line-short n h = let p = count-size n h in simp length-append (omega arith)
 
-by_answer : (s : List ℕ) (w : Written) → tokenized s 32768 ≡ w → length (printed_by w (tokens_of s)) ≤ 262157
-by_answer s (Wrote n) e =
+by_answer : (s : List ℕ) (w : Result ℕ Refusal) → tokenized s 32768 ≡ w → length (printed_by w (tokens_of s)) ≤ 262157
+by_answer s (Ok n) e =
     let k = all_listed s 32768 n e in
     text-size (tokens_of s) (omega (arith, listed-few s 32768 n e, k.0))
     (λ t m. let i = inside s k.2 t.start t.end m in (omega (arith, k.3), omega (arith, k.3)))
-by_answer s (Refused r) e = one_of (only_three s 32768 r e)
+by_answer s (Err r) e = one_of (only_three s 32768 r e)
   where
     one_of : (r ≡ TextTooLong) ⊎ ((r ≡ TextNotUtf8) ⊎ (r ≡ ListTooShort)) → length (refused_text (numbers_of r)) ≤ 262157
     one_of (inl q) = subst (λ (x : Refusal). length (refused_text (numbers_of x)) ≤ 262157) (sym q) (line-short 9 (omega arith))
@@ -106,11 +99,3 @@ by_answer s (Refused r) e = one_of (only_three s 32768 r e)
 pub printed-size : (s : List ℕ) → length (printed s) ≤ 262157
 unfolding printed
 printed-size s = by_answer s (tokenized s 32768) refl
-
--- a list that holds tokens has room for them
-pub room_for : (s old list : List ℕ) (n : ℕ) → Wrote n ≡ tokenized s (length old) → list ≡ listed s old → 2 * n ≤ length list
-room_for s old list n e f =
-    let k = listed_all s old n (sym e) in
-    let l : length list ≡ length (pairs (tokens_of s)) + length (drop (2 * n) old) = ap length (f ∙ k.2) ∙ length-append (pairs (tokens_of s)) (drop (2 * n) old) in
-    let p = pairs-length (tokens_of s) in
-    omega (arith, k.1)

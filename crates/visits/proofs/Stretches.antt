@@ -1,41 +1,38 @@
 -- Lines stretch by stretch: a turn of the loop, words that are longer than any, how long the lines of a stretch are, and that stretch
 -- after stretch prints what the whole input does. The proofs of lines.rt cite these. Assumes nothing.
+use Rattle.std.specs.Prelude.{Err, Ok, Result}
 use Prim.Native.Nat.{ℕ, zero, suc, ◌+◌, ◌*◌, ◌<◌, ◌≤◌}
 use native.Mathlib.Numerals.{add-one}
 use native.Mathlib.Omega.{arith}
 use mathlib.Core.Path.{◌≡◌, refl, sym, ap, ap₂, ◌∙◌}
 use mathlib.Core.Bool.{Bool, true, false}
 use mathlib.Core.List.{List, [], ◌∷◌, ◌++◌, append_assoc}
-use lib.ListN.{length, take, drop, get_or, set, length-append, drop_of_length-le}
-use lib.Seq.{drop-cons, take-append-le, take_at, length-take-le}
+use lib.ListN.{length, take, drop, get_or, length-append, drop_of_length-le}
+use lib.Seq.{drop-cons, take-append-le, length-take-le}
 use lib.Dec.{eqb}
 use borrow.Author.Tests.{lt-ltb, eq-eqb, ne_eqb}
 use Rattle.runs.specs.Runs.{pick}
 use Rattle.tables.proofs.Compared.{by_order}
-use Rattle.text.specs.Word.{word_limit, word_check}
-use Rattle.text.specs.declared.word.WordCheck.{WordCheck}
-use Rattle.text.specs.declared.word.WordCheck.TheVariants as words
+use Rattle.text.specs.Word.{word_limit, word_check, refusal_of}
+use Rattle.text.specs.declared.word.WordFault.{WordFault}
+use Rattle.text.specs.declared.word.WordFault.TheVariants as words
 use Rattle.refusals.specs.Refusals.{numbers_of}
 use Rattle.refusals.specs.declared.Refusal.TheVariants.{WordTooLong}
+use Rattle.refusals.specs.declared.Refusal.{Refusal}
 use Rattle.sheet.specs.Inputs.{of_word}
+use Rattle.sheet.specs.Lines.{sheet_check}
+use Rattle.analysis.specs.Answers.{visits_given}
+use Rattle.analysis.proofs.Promises.{visits_are}
 use Rattle.sheet.specs.Replies.{reply}
+use Rattle.std.proofs.lemmas.List.{length-take}
+use Rattle.std.proofs.lemmas.List.Sums.{fold-append}
 use Rattle.writing.specs.Refused.{refused_text}
-use Rattle.writing.specs.Placed.{placed, Wrote, Whole}
-use Rattle.writing.proofs.Puts.{Upto}
+use Rattle.writing.specs.Writers.{with_byte, with_text}
+use Rattle.writing.specs.declared.Writer.{Writer}
 use Rattle.writing.proofs.Sizes.{digit-size, number_size}
 use Rattle.paths.specs.Visits.{visits_of}
 use Rattle.paths.proofs.Promises.{few_visits}
 use Rattle.visits.specs.Printed.{said_or, visit_line, word_line, lines_of, unended, last_line}
-
--- what is to come, said otherwise
-pub upto_as : {old new : List ℕ} {at next : ℕ} {whole rest rest' : List ℕ} → rest ≡ rest' → Upto old new at next whole rest → Upto old new at next whole rest'
-upto_as e u = record { done = u.done; wrote = u.wrote; splits = ap (λ (x : List ℕ). u.done ++ x) (sym e) ∙ u.splits }
-
--- one byte more of a word that is kept
-pub kept_more : (w : List ℕ) (n b : ℕ) → n < length w → take (n + 1) (set w n b) ≡ take n w ++ (b ∷ [])
-kept_more [] n b h = absurd (omega arith)
-kept_more (x ∷ w) zero b h = refl
-kept_more (x ∷ w) (suc n) b h = rw (add-one (suc n)) (ap (λ (l : List ℕ). x ∷ l) (ap (λ (k : ℕ). take k (set w n b)) (sym (add-one n)) ∙ kept_more w n b (omega arith)))
 
 -- a text no longer than this
 pub take_short : (m : ℕ) (l : List ℕ) → length l ≤ m → take m l ≡ l
@@ -43,6 +40,18 @@ take_short zero [] h = refl
 take_short (suc m) [] h = refl
 take_short zero (x ∷ l) h = absurd (omega arith)
 take_short (suc m) (x ∷ l) h = ap (λ (t : List ℕ). x ∷ t) (take_short m l (omega arith))
+
+-- the line of a word, by what the check of the word says
+module _ (sheet w : List ℕ) where
+  pub line_refused : (f : WordFault) → word_check w ≡ Err f → word_line sheet w ≡ refused_text (numbers_of (refusal_of f))
+  unfolding word_line
+  line_refused f e = ap (λ (c : Result (Unit {0}) WordFault). said_or (of_word c) (visit_line (visits_of (reply sheet) w) w)) e
+
+  pub line_told : word_check w ≡ Ok tt → sheet_check sheet ≡ Ok tt → (n : ℕ) → n ≡ visits_given w sheet → word_line sheet w ≡ visit_line n w
+  unfolding word_line
+  line_told e a n m =
+      ap (λ (c : Result (Unit {0}) WordFault). said_or (of_word c) (visit_line (visits_of (reply sheet) w) w)) e
+      ∙ ap (λ (k : ℕ). visit_line k w) (sym (m ∙ visits_are w sheet e a))
 
 module _ (sheet : List ℕ) where
   -- Words that are longer than any.
@@ -116,6 +125,43 @@ pub word_none : (text : List ℕ) (i : ℕ) (before : List ℕ) → length text 
 unfolding unended
 word_none text i before h = ap (unended before) (drop_of_length-le text h)
 
+-- A turn of the loop: of the text the bytes from i on are to come, and `word` is what is kept of the word before them.
+pub record Turned (sheet text before : List ℕ) (first : Writer) (i : ℕ) (word : List ℕ) (w : Writer) : Type 0 where
+  pub few : length word ≤ 193
+  pub lines : with_text w (lines_of sheet word (drop i text)) ≡ with_text first (lines_of sheet before text)
+  pub kept : take 193 (unended word (drop i text)) ≡ take 193 (unended before text)
+
+module _ (sheet text before : List ℕ) (first : Writer) (i : ℕ) (word : List ℕ) (w : Writer) (t : Turned sheet text before first i word w) where
+  -- a 0A ends the word, any other byte belongs to it, but of a word that is longer than any no more is kept
+  pub turn_ended : i < length text → get_or text i 0 ≡ 0x0A → (new : Writer) → new ≡ with_text w (word_line sheet word) → (none : List ℕ) → none ≡ []
+      → Turned sheet text before first (i + 1) none new
+  turn_ended h b new p none e = rw (p, e) (record {
+    few = omega arith;
+    lines = sym (ap (with_text w) (line_ended sheet text i h word b) ∙ fold-append with_byte w (word_line sheet word) _) ∙ t.lines;
+    kept = sym (ap (take 193) (word_ended sheet text i h word b)) ∙ t.kept;
+  })
+
+  pub turn_longer : i < length text → (get_or text i 0 ≡ 0x0A → ⊥) → length word < 193 → (longer : List ℕ) → longer ≡ word ++ get_or text i 0 ∷ []
+      → Turned sheet text before first (i + 1) longer w
+  turn_longer h b l longer e = rw e (record {
+    few = rw (length-append word (get_or text i 0 ∷ [])) (omega arith);
+    lines = sym (ap (with_text w) (line_longer sheet text i h word b)) ∙ t.lines;
+    kept = sym (ap (take 193) (word_longer sheet text i h word b)) ∙ t.kept;
+  })
+
+  pub turn_full : i < length text → (get_or text i 0 ≡ 0x0A → ⊥) → 193 ≤ length word → Turned sheet text before first (i + 1) word w
+  turn_full h b l = record {
+    few = t.few;
+    lines = sym (ap (with_text w) (line_full sheet text i h word (omega arith) b)) ∙ t.lines;
+    kept = sym (word_full sheet text i h word l b) ∙ t.kept;
+  }
+
+  pub turn_end : length text ≤ i → (w ≡ with_text first (lines_of sheet before text)) × (word ≡ take 193 (unended before text))
+  turn_end h = (
+    sym (ap (with_text w) (lines_none sheet text i word h)) ∙ t.lines,
+    sym (take_short 193 word t.few) ∙ sym (ap (take 193) (word_none text i word h)) ∙ t.kept,
+  )
+
 -- How long the lines are: each has at most 12 bytes more than its word.
 
 visit_size : (n : ℕ) (w : List ℕ) → n ≤ 5000 → length (visit_line n w) ≤ length w + 12
@@ -130,11 +176,11 @@ pub word_size : (sheet w : List ℕ) → length (word_line sheet w) ≤ length w
 unfolding word_line
 word_size sheet w = by (word_check w)
   where
-    by : (x : WordCheck) → length (said_or (of_word x) (visit_line (visits_of (reply sheet) w) w)) ≤ length w + 12
-    by words.Accepted = visit_size (visits_of (reply sheet) w) w (few_visits (reply sheet) w)
-    by words.TooLong = let t = refused-size 1 (omega arith) in omega arith
-    by words.NotUtf8 = let t = refused-size 2 (omega arith) in omega arith
-    by words.Forbidden = let t = refused-size 3 (omega arith) in omega arith
+    by : (x : Result (Unit {0}) WordFault) → length (said_or (of_word x) (visit_line (visits_of (reply sheet) w) w)) ≤ length w + 12
+    by (Ok _) = visit_size (visits_of (reply sheet) w) w (few_visits (reply sheet) w)
+    by (Err words.TooLong) = let t = refused-size 1 (omega arith) in omega arith
+    by (Err words.NotUtf8) = let t = refused-size 2 (omega arith) in omega arith
+    by (Err words.Forbidden) = let t = refused-size 3 (omega arith) in omega arith
 
 pub lines-size : (sheet before text : List ℕ) → length (lines_of sheet before text) ≤ length before + 13 * length text
 unfolding lines_of
@@ -146,26 +192,23 @@ lines-size sheet before (b ∷ text) = by (eqb b 0x0A) (lines-size sheet [] text
     by true h k = let l = word_size sheet before in simp length-append (omega arith)
     by false h k = let l : length (before ++ b ∷ []) ≡ length before + 1 = length-append before (b ∷ []) in omega arith
 
--- a text put at the front of a buffer with room for it
-pub whole_of : (old new text : List ℕ) (r : ℕ) → Wrote old new 0 r text → length text ≤ length old → length old ≤ 65536 → Whole text old new r
-unfolding placed
-whole_of old new text r w h k =
-    let q = w.end in
-    let e : r ≡ length text = omega arith in
-    let z : 0 + length text ≡ r = omega arith in
-    let all : new ≡ text ++ drop r old = w.there (omega arith) (omega arith) ∙ ap (λ (m : ℕ). text ++ drop m old) z in
-    let l = w.size in
-    record {
-      size = e;
-      contents = all;
-      inside = omega arith;
-      counted = e ∙ ap length (sym (ap (take r) all ∙ take_at text (drop r old) r (sym e)));
-    }
+pub last_none : (sheet w : List ℕ) → length w ≡ 0 → last_line sheet w ≡ []
+unfolding last_line
+last_none sheet [] h = refl
+last_none sheet (b ∷ w) h = absurd (omega arith)
+
+pub last_some : (sheet w : List ℕ) → 0 < length w → last_line sheet w ≡ word_line sheet w
+unfolding last_line
+last_some sheet [] h = absurd (omega arith)
+last_some sheet (b ∷ w) h = refl
 
 pub last-size : (sheet w : List ℕ) → length (last_line sheet w) ≤ length w + 12
 unfolding last_line
 last-size sheet [] = omega arith
 last-size sheet (b ∷ w) = word_size sheet (b ∷ w)
+
+pub few_kept : (word text : List ℕ) → word ≡ take 193 text → length word ≤ 193
+few_kept word text e = rw (e, length-take) (omega arith)
 
 -- Stretch after stretch: the lines of two stretches are those of the first, and then those of the second behind what the first has left,
 -- of which 193 bytes are kept.

@@ -15,10 +15,8 @@ use Rattle.sheet.specs.Limits.{sheet_limit}
 use Rattle.sheet.specs.Lines.{sheet_check}
 use Rattle.sheet.specs.Inputs.{by_sheet, Placed}
 use Rattle.sheet.proofs.Faults.{Inside, fault-inside}
-use Rattle.sheet.specs.declared.check.SheetCheck.{SheetCheck}
-use Rattle.sheet.specs.declared.check.SheetCheck.TheVariants as sheets
-use Rattle.sheet.specs.declared.inputs.Inputs.{Inputs}
-use Rattle.sheet.specs.declared.inputs.Inputs.TheVariants as inputs
+use Rattle.sheet.specs.declared.check.SheetFault.{SheetFault}
+use Rattle.sheet.specs.declared.check.SheetFault.TheVariants as sheets
 use Rattle.writing.specs.Refused.{refused_text}
 use Rattle.visits.specs.Printed.{said_or, lines_of, unended, last_line, printed}
 use Rattle.visits.proofs.Stretches.{lines-both, kept-both, last-kept}
@@ -102,20 +100,20 @@ module _ (sheet read front t : List ℕ) (k : front ≡ take 193 (unended [] rea
   last_told written e = e ∙ ap (last_line sheet) k ∙ last-kept sheet (unended [] read)
 
 -- What is printed for a sheet, by what its check says.
-refusal_told : (sheet input : List ℕ) (r : Refusal) → by_sheet (sheet_check sheet) ≡ inputs.Refused r → refused_text (numbers_of r) ≡ printed sheet input
+refusal_told : (sheet input : List ℕ) (r : Refusal) → by_sheet (sheet_check sheet) ≡ Err r → refused_text (numbers_of r) ≡ printed sheet input
 unfolding printed
-refusal_told sheet input r e = sym (ap (λ (i : Inputs). said_or i (lines_of sheet [] input ++ last_line sheet (unended [] input))) e)
+refusal_told sheet input r e = sym (ap (λ (i : Result (Unit {0}) Refusal). said_or i (lines_of sheet [] input ++ last_line sheet (unended [] input))) e)
 
-lines_told : (sheet input : List ℕ) → by_sheet (sheet_check sheet) ≡ inputs.Accepted → lines_of sheet [] input ++ last_line sheet (unended [] input) ≡ printed sheet input
+lines_told : (sheet input : List ℕ) → by_sheet (sheet_check sheet) ≡ Ok tt → lines_of sheet [] input ++ last_line sheet (unended [] input) ≡ printed sheet input
 unfolding printed
-lines_told sheet input e = sym (ap (λ (i : Inputs). said_or i (lines_of sheet [] input ++ last_line sheet (unended [] input))) e)
+lines_told sheet input e = sym (ap (λ (i : Result (Unit {0}) Refusal). said_or i (lines_of sheet [] input ++ last_line sheet (unended [] input))) e)
 
-pub refusal_read : {T E : Type 0} (r : Result T E) (left old new : Option (List ℕ)) (sheet : List ℕ) (refusal : Refusal) → by_sheet (sheet_check sheet) ≡ inputs.Refused refusal
+pub refusal_read : {T E : Type 0} (r : Result T E) (left old new : Option (List ℕ)) (sheet : List ℕ) (refusal : Refusal) → by_sheet (sheet_check sheet) ≡ Err refusal
     → OnOk r (Appends old new (refused_text (numbers_of refusal))) → OnOk r ((l : List ℕ) × Consumes left left l × Appends old new (printed sheet l))
 refusal_read (Ok x) left old new sheet refusal e a = ([], read_none left, rw (sym (refusal_told sheet [] refusal e)) a)
 refusal_read (Err x) left old new sheet refusal e a = tt
 
-pub accepted_read : {T E : Type 0} (r : Result T E) (left rest old new : Option (List ℕ)) (sheet : List ℕ) → by_sheet (sheet_check sheet) ≡ inputs.Accepted
+pub accepted_read : {T E : Type 0} (r : Result T E) (left rest old new : Option (List ℕ)) (sheet : List ℕ) → by_sheet (sheet_check sheet) ≡ Ok tt
     → OnOk r ((l : List ℕ) × Consumes left rest l × Appends old new (lines_of sheet [] l ++ last_line sheet (unended [] l)))
     → OnOk r ((l : List ℕ) × Consumes left rest l × Appends old new (printed sheet l))
 accepted_read (Ok x) left rest old new sheet e p = (p.0, p.1, rw (sym (lines_told sheet p.0 e)) p.2)
@@ -147,15 +145,15 @@ refusal_line refusals.NothingToWithdraw p = number_line 12 (omega arith)
 refusal_line refusals.NoRoom p = number_line 13 (omega arith)
 
 -- the place of a sheet's refusal lies in it
-abbrev PlacedIn : Inputs → Type 0
-PlacedIn inputs.Accepted = Unit {0}
-PlacedIn (inputs.Refused r) = Placed r
+abbrev PlacedIn : Result (Unit {0}) Refusal → Type 0
+PlacedIn (Ok _) = Unit {0}
+PlacedIn (Err r) = Placed r
 
-pub sheet_placed : (s : List ℕ) (r : Refusal) → by_sheet (sheet_check s) ≡ inputs.Refused r → Placed r
+pub sheet_placed : (s : List ℕ) (r : Refusal) → by_sheet (sheet_check s) ≡ Err r → Placed r
 sheet_placed s r e = subst PlacedIn e (go (sheet_check s) (fault-inside s))
   where
-    go : (x : SheetCheck) → Inside sheet_limit x → PlacedIn (by_sheet x)
-    go sheets.Accepted i = tt
-    go sheets.TooLong i = tt
-    go (sheets.NoForm at) i = (i, tt)
-    go (sheets.NotAbove at) i = (i, tt)
+    go : (x : Result (Unit {0}) SheetFault) → Inside sheet_limit x → PlacedIn (by_sheet x)
+    go (Ok _) i = tt
+    go (Err sheets.TooLong) i = tt
+    go (Err (sheets.NoForm at)) i = (i, tt)
+    go (Err (sheets.NotAbove at)) i = (i, tt)

@@ -1,22 +1,21 @@
 -- What the program prints for a sheet and an input of words, one a line: for each word in order `(v N WORD)`, N the pieces visited, or the
 -- word's refusal; for a refused sheet its refusal once, and nothing else. Assumes nothing.
-use Rattle.std.specs.Prelude.{ℕ, List, [], ◌∷◌, ◌++◌, eqb}
+use Rattle.refusals.specs.declared.Refusal.{Refusal}
+use Rattle.std.specs.Prelude.{ℕ, List, [], ◌∷◌, ◌++◌, eqb, Err, Ok, Result}
 use Rattle.runs.specs.Runs.{pick}
 use Rattle.text.specs.Word.{word_check}
 use Rattle.refusals.specs.Refusals.{numbers_of}
 use Rattle.sheet.specs.Lines.{sheet_check}
 use Rattle.sheet.specs.Inputs.{of_word, by_sheet}
 use Rattle.sheet.specs.Replies.{reply}
-use Rattle.sheet.specs.declared.inputs.Inputs.{Inputs}
-use Rattle.sheet.specs.declared.inputs.Inputs.TheVariants as inputs
 use Rattle.writing.specs.Decimal.{decimal}
 use Rattle.writing.specs.Refused.{refused_text}
 use Rattle.paths.specs.Visits.{visits_of}
 
 -- what is printed where this is said: a text, or the line of the refusal
-abbrev pub said_or : Inputs → List ℕ → List ℕ
-said_or inputs.Accepted text = text
-said_or (inputs.Refused r) text = refused_text (numbers_of r)
+abbrev pub said_or : Result (Unit {0}) Refusal → List ℕ → List ℕ
+said_or (Ok _) text = text
+said_or (Err r) text = refused_text (numbers_of r)
 
 -- (v N WORD) and 0A
 unfoldable pub visit_line : ℕ → List ℕ → List ℕ

@@ -8,20 +8,20 @@ ghost use Rattle.std.specs.Prelude.{ℕ, List, [], ◌++◌, IfSome, OnOk};
 ghost use Rattle.std.specs.Io.KnownBytes.{Appends, Consumes, IsAtEnd};
 ghost use Rattle.refusals.specs.Refusals.{numbers_of};
 ghost use Rattle.sheet.specs.Inputs.{Placed};
-ghost use Rattle.sheet.specs.Replies.{Indexed};
 ghost use Rattle.writing.specs.Refused.{refused_text};
 ghost use Rattle.visits.specs.Printed.{lines_of, unended, last_line, printed};
 
-use crate::lines::{print_last, print_stretch};
-use lookup::lines::prepare_sheet;
+use crate::lines::{put_last, put_lines};
+use arrayvec::ArrayVec;
+use lookup::lexicon::Lexicon;
+use lookup::lines::check_lines;
 use lookup::starts::Start;
-use refusals::{Refusal, Written};
-use sheet::inputs::Inputs;
+use refusals::Refusal;
 use sheet::limits::ALL_STARTS;
 use std::io::{ErrorKind, Read, Write};
 use std::rt::Files;
 use std::{env, fs, io};
-use writing::write_refused;
+use writing::{Printed, Writer};
 
 pub mod lines;
 
@@ -30,45 +30,37 @@ fn say_refused<W: Write>(told: &mut W, refusal: Refusal) -> io::Result<()>
     ensures { Placed refusal → OnOk result (Appends (W.contents told.old) (W.contents told.new) (refused_text (numbers_of refusal))) }
 {
     let mut out = [0u8; 64];
-    let written = write_refused(refusal, &mut out);
-    match written {
-        Written::Wrote(size) => told.write_all(&out[..size]),
-        Written::Refused(_) => Ok(()),
-    }
+    let mut w = Writer::new(&mut out);
+    refusal.put(&mut w);
+    told.write_all(w.written())
 }
 
 // Prints the lines of all words that a reader has left. A proved loop has to end, and nothing says that an input does: so its turns are
 // counted, up to a number that no run uses up. Where they end, the words are those that were read, and the last one's line is printed too.
-fn answer_all<R: Read, W: Write>(
-    words: &mut R,
-    told: &mut W,
-    sheet: &[u8],
-    starts: &[Start],
-) -> io::Result<()>
-    requires { Indexed sheet.now starts.now }
+fn answer_all<R: Read, W: Write>(words: &mut R, told: &mut W, sheet: &Lexicon<'_>) -> io::Result<()>
     ensures read { OnOk result ((read : List ℕ) × Consumes (R.remaining words.old) (R.remaining words.new) read
-        × Appends (W.contents told.old) (W.contents told.new) (lines_of sheet.now [] read ++ last_line sheet.now (unended [] read))) }
+        × Appends (W.contents told.old) (W.contents told.new) (lines_of sheet.now.bytes.now [] read ++ last_line sheet.now.bytes.now (unended [] read))) }
     ensures all { OnOk result (IsAtEnd (R.remaining words.new) → IfSome (R.remaining words.old) (λ input.
-        Appends (W.contents told.old) (W.contents told.new) (lines_of sheet.now [] input ++ last_line sheet.now (unended [] input)))) }
+        Appends (W.contents told.old) (W.contents told.new) (lines_of sheet.now.bytes.now [] input ++ last_line sheet.now.bytes.now (unended [] input)))) }
 {
-    let mut word = [0u8; 193];
+    let mut word = ArrayVec::new();
     let mut text = [0u8; 4096];
     let mut out = [0u8; 65536];
-    let mut kept: usize = 0;
     for _ in 0..u64::MAX {
         match words.read(&mut text) {
             Ok(0) => break,
             Ok(n) => {
-                let done = print_stretch(&mut word, kept, &text[..n], sheet, starts, &mut out);
-                kept = done.kept;
-                told.write_all(&out[..done.size])?;
+                let mut w = Writer::new(&mut out);
+                put_lines(&mut w, &mut word, &text[..n], sheet);
+                told.write_all(w.written())?;
             }
             Err(error) if error.kind() == ErrorKind::Interrupted => {}
             Err(error) => return Err(error),
         }
     }
-    let size = print_last(&word[..kept], sheet, starts, &mut out);
-    told.write_all(&out[..size])
+    let mut w = Writer::new(&mut out);
+    put_last(&mut w, word.as_slice(), sheet);
+    told.write_all(w.written())
 }
 
 // Checks the sheet, and goes on to the words where it is accepted.
@@ -79,12 +71,15 @@ fn answer<R: Read, W: Write>(words: &mut R, told: &mut W, sheet: &[u8]) -> io::R
         Appends (W.contents told.old) (W.contents told.new) (printed sheet.now input))) }
 {
     let mut starts: [Start; ALL_STARTS] = [0; ALL_STARTS];
-    let ready = prepare_sheet(sheet, &mut starts);
-    let lines = ready.lines;
-    let inputs = ready.inputs;
-    match inputs {
-        Inputs::Refused(refusal) => say_refused(told, refusal),
-        Inputs::Accepted => answer_all(words, told, sheet, &starts[..lines]),
+    match check_lines(sheet, &mut starts) {
+        Err(fault) => say_refused(told, Refusal::from(fault)),
+        Ok(lines) => {
+            let lexicon = Lexicon {
+                bytes: sheet,
+                starts: &starts[..lines],
+            };
+            answer_all(words, told, &lexicon)
+        }
     }
 }
 

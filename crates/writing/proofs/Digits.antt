@@ -23,9 +23,9 @@ enough (suc j) (suc k) n a b = by (ltb n 10) refl (λ h. enough j k (n / 10) (om
     by true e more = refl
     by false e more = ap (λ (l : List ℕ). l ++ (digit (n % 10) ∷ [])) (more (ltb-false _ _ e))
 
-pub one-digit : (n : ℕ) → n < 10 → decimal n ≡ digit n ∷ []
+pub one_digit : (n : ℕ) → n < 10 → decimal n ≡ digit n ∷ []
 unfolding decimal digits_in
-one-digit n h = rw (lt-ltb _ _ h)
+one_digit n h = rw (lt-ltb _ _ h)
 
 pub more_digits : (n : ℕ) → 10 ≤ n → decimal n ≡ decimal (n / 10) ++ (digit (n % 10) ∷ [])
 unfolding decimal digits_in

@@ -10,7 +10,7 @@ use lib.Dec.{ltb}
 use borrow.Author.Tests.{ltb-true, ltb-false}
 use Rattle.writing.specs.Decimal.{digit, decimal}
 use Rattle.writing.specs.Refused.{gap, parted_from}
-use Rattle.writing.proofs.Digits.{one-digit, more_digits}
+use Rattle.writing.proofs.Digits.{one_digit, more_digits}
 
 gap-size : (i : ℕ) → length (gap i) ≤ 1
 gap-size zero = omega arith
@@ -31,14 +31,14 @@ pub more-size : (j b : ℕ) → ((n : ℕ) → n < b → length (decimal n) ≤ 
 more-size j b h n l = by (ltb n 10) refl
   where
     by : (t : Bool) → ltb n 10 ≡ t → length (decimal n) ≤ suc (suc j)
-    by true e = let z = ap length (one-digit n (ltb-true _ _ e)) in omega arith
+    by true e = let z = ap length (one_digit n (ltb-true _ _ e)) in omega arith
     by false e =
         let z = ap length (more_digits n (ltb-false _ _ e)) ∙ length-append (decimal (n / 10)) (digit (n % 10) ∷ []) in
         let r = h (n / 10) (omega arith) in
         omega arith
 
 pub digit-size : (n : ℕ) → n < 10 → length (decimal n) ≤ 1
-digit-size n h = let z = ap length (one-digit n h) in omega arith
+digit-size n h = let z = ap length (one_digit n h) in omega arith
 
 pub count-size : (n : ℕ) → n < 100 → length (decimal n) ≤ 2
 count-size n h = more-size 0 10 digit-size n (omega arith)

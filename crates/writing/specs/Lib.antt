@@ -1,3 +1,4 @@
 pub mod Decimal
 pub mod Placed
 pub mod Refused
+pub mod Writers

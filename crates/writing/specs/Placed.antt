@@ -1,7 +1,7 @@
 -- Texts put into a lent buffer. Assumes nothing.
-use Rattle.std.specs.Prelude.{ℕ, ◌+◌, ◌≤◌, min, ◌≡◌, List, ◌++◌, length, take, drop}
+use Rattle.refusals.specs.declared.Refusal.{Refusal}
+use Rattle.std.specs.Prelude.{ℕ, ◌+◌, ◌≤◌, min, ◌≡◌, List, ◌++◌, length, take, drop, Result}
 use Rattle.refusals.specs.Refusals.{room_for, output_by}
-use Rattle.refusals.specs.declared.Written.{Written}
 
 -- the largest number, at which places stop growing
 abbrev pub largest : ℕ
@@ -19,7 +19,7 @@ pub record Wrote (old new : List ℕ) (at next : ℕ) (text : List ℕ) : Type 0
   pub there : at + length text ≤ largest → at + length text ≤ length old → new ≡ placed old at text
 
 -- what is given for a text: the number of its bytes, or that the buffer is shorter
-abbrev pub written_of : List ℕ → List ℕ → Written
+abbrev pub written_of : List ℕ → List ℕ → Result ℕ Refusal
 written_of text out = room_for (length text) (length out)
 
 -- and what the buffer holds then: the text at its front and the rest as before, or all as before
@@ -27,7 +27,7 @@ abbrev pub text_over : List ℕ → List ℕ → List ℕ
 text_over text out = output_by (written_of text out) text out
 
 -- what an entry that writes a text gives, and what it leaves in the buffer
-pub record Answer (text old new : List ℕ) (r : Written) : Type 0 where
+pub record Answer (text old new : List ℕ) (r : Result ℕ Refusal) : Type 0 where
   pub given : r ≡ written_of text old
   pub left : new ≡ text_over text old
 

@@ -1,87 +1,120 @@
-// Texts put into a lent buffer one after the other. The place after a text is given also where it does not fit in: so one run on a buffer
-// without room tells how long a text is, and another writes it. Free: what stands in the buffer from the first place on where a text
-// does not fit in; an entry tests that first.
+// Texts put into a lent buffer one after the other. A writer goes on also where its buffer ends: so one run on a buffer without room tells
+// how long a text is, and another writes it.
 #![tactic(auto)]
 
-ghost use Rattle.std.specs.Prelude.{◌≡◌, [], ◌∷◌, ◌+◌, ◌<◌, min};
-ghost use Rattle.writing.specs.Decimal.{digit, decimal};
-ghost use Rattle.refusals.specs.Refusals.{numbers_of, numbers_told};
-ghost use Rattle.writing.specs.Placed.{largest, Wrote, Answer};
+ghost use Rattle.std.specs.Prelude.{ℕ, List, ◌≡◌, take};
+ghost use Rattle.refusals.specs.Refusals.{numbers_of};
+ghost use Rattle.writing.specs.Decimal.{decimal};
+ghost use Rattle.writing.specs.Placed.{Wrote, Answer};
 ghost use Rattle.writing.specs.Refused.{refused_text};
+ghost use Rattle.writing.specs.Writers.{with_text};
 
-use refusals::{Numbers, Refusal, Written, numbers_of};
+use refusals::Refusal;
 
-// The place n bytes after `at`, or the largest number where there is no such place.
-fn end_of(at: usize, n: usize) -> usize
-    ensures { result ≡ min (at + n) largest }
-{
-    if 18446744073709551615 - at < n {
-        return 18446744073709551615;
+// A lent buffer, and the place at which the next text is put.
+#[derive(Drop)]
+pub struct Writer<'o> {
+    out: &'o mut [u8],
+    at: usize,
+}
+
+impl<'o> Writer<'o> {
+    // At the front of a buffer.
+    pub fn new(out: &'o mut [u8]) -> Writer<'o>
+        ensures { result ≡ record { out = out.entry; at = 0 } }
+    {
+        Writer { out, at: 0 }
     }
-    at + n
-}
 
-// Puts a text at a place, and gives the place after it.
-pub fn put(out: &mut [u8], at: usize, text: &[u8]) -> usize
-    ensures { Wrote out.old out.new at result text.now }
-{
-    let end = end_of(at, text.len());
-    if out.len() < end {
-        return end;
+    // The place: how long what was put is, or the largest number where that is longer.
+    pub fn at(&self) -> usize
+        ensures { result ≡ self.now.at }
+    {
+        self.at
     }
-    out[at..end].copy_from_slice(text);
-    end
-}
 
-// Puts a digit.
-fn put_digit(out: &mut [u8], at: usize, d: usize) -> usize
-    requires { d < 10 }
-    ensures { Wrote out.old out.new at result (digit d ∷ []) }
-{
-    let one = [48 + d as u8];
-    put(out, at, &one)
-}
-
-// Puts a number in decimal notation.
-pub fn put_decimal(out: &mut [u8], at: usize, n: usize) -> usize
-    ensures { Wrote out.old out.new at result (decimal n) }
-{
-    if n < 10 {
-        return put_digit(out, at, n);
+    // What was put, as much of it as there was room for.
+    pub fn written(&self) -> &[u8]
+        ensures { result.now ≡ take self.now.at self.now.out.now }
+    {
+        let end = self.at.min(self.out.len());
+        &self.out[..end]
     }
-    let next = put_decimal(out, at, n / 10);
-    put_digit(out, next, n % 10)
-}
 
-// Puts the line of a refusal: its number, and the place that comes with it.
-pub fn put_numbers(out: &mut [u8], at: usize, numbers: Numbers) -> usize
-    ensures { Wrote out.old out.new at result (refused_text (numbers_told numbers)) }
-{
-    let a = put(out, at, b"(refused ");
-    match numbers {
-        Numbers::Number(n) => {
-            let b = put_decimal(out, a, n);
-            put(out, b, b")\n")
+    // Puts a text, as much of it as there is room for, and goes on behind it.
+    pub fn put(&mut self, text: &[u8])
+        ensures { self.new ≡ with_text self.old text.now }
+    {
+        let end = self.at.saturating_add(text.len());
+        if end <= self.out.len() {
+            self.out[self.at..end].copy_from_slice(text);
+        } else if self.at < self.out.len() {
+            let n = self.out.len() - self.at;
+            self.out[self.at..].copy_from_slice(&text[..n]);
         }
-        Numbers::Placed(n, start) => {
-            let b = put_decimal(out, a, n);
-            let c = put(out, b, b" ");
-            let d = put_decimal(out, c, start);
-            put(out, d, b")\n")
+        self.at = end;
+    }
+
+    // Puts a number in decimal notation.
+    #[tactic(auto, using(std::proofs::lemmas::Grind::common_steps, crate::proofs::Digits::one_digit, crate::proofs::Digits::more_digits))]
+    pub fn put_decimal(&mut self, n: usize)
+        ensures { self.new ≡ with_text self.old (decimal n) }
+    {
+        if 10 <= n {
+            self.put_decimal(n / 10);
         }
+        self.put(&[b'0' + (n % 10) as u8]);
+    }
+}
+
+// What has a text, and puts it.
+pub trait Printed {
+    ghost text: { Self → List ℕ };
+
+    fn put(&self, w: &mut Writer)
+        ensures { w.new ≡ with_text w.old (text self.now) };
+}
+
+// Puts a text at the front of `out`, as much of it as there is room for, and gives how long it is.
+pub fn put_front<P: Printed>(what: &P, out: &mut [u8]) -> usize
+    ensures { Wrote out.old out.new 0 result (P.text what.now) }
+{
+    let mut w = Writer::new(out);
+    what.put(&mut w);
+    w.at()
+}
+
+// Writes a text at the front of `out`. Too short a buffer is left as it was.
+pub fn write_whole<P: Printed>(what: &P, out: &mut [u8]) -> Result<usize, Refusal>
+    ensures { Answer (P.text what.now) out.old out.new result }
+{
+    let n = put_front(what, &mut []);
+    if out.len() < n {
+        return Err(Refusal::OutputTooShort);
+    }
+    put_front(what, out);
+    Ok(n)
+}
+
+// The line of a refusal: its number, and the place that comes with it.
+impl Printed for Refusal {
+    ghost text = { λ r. refused_text (numbers_of r) };
+
+    #[tactic(auto, unfolding(crate::specs::Refused::refused_text))]
+    fn put(&self, w: &mut Writer) {
+        w.put(b"(refused ");
+        w.put_decimal(self.number());
+        if let Some(start) = self.place() {
+            w.put(b" ");
+            w.put_decimal(start);
+        }
+        w.put(b")\n");
     }
 }
 
 // Writes the line of a refusal at the front of `out`. Too short a buffer is left as it was.
-pub fn write_refused(refusal: Refusal, out: &mut [u8]) -> Written
+pub fn write_refused(refusal: Refusal, out: &mut [u8]) -> Result<usize, Refusal>
     ensures { Answer (refused_text (numbers_of refusal)) out.old out.new result }
 {
-    let numbers = numbers_of(refusal);
-    let mut none = [0u8; 0];
-    let n = put_numbers(&mut none, 0, numbers);
-    if out.len() < n {
-        return Written::Refused(Refusal::OutputTooShort);
-    }
-    put_numbers(out, 0, numbers);
-    Written::Wrote(n)
+    write_whole(&refusal, out)
 }

@@ -5,13 +5,13 @@ use Rattle.exports.specs.Codes.{Small, written_code}
 use Rattle.exports.proofs.written_code.Goals as goal
 
 pub overflow_mul-result : goal.overflow_mul-result
-overflow_mul-result c = let s = subst Small c.in-Wrote.is c.requires in omega (arith, s)
+overflow_mul-result c = let s = subst Small c.in-Ok.is c.requires in omega (arith, s)
 
 pub refusal_code-requires : goal.refusal_code-requires
-refusal_code-requires c = subst Small c.in-Refused.is c.requires
+refusal_code-requires c = subst Small c.in-Err.is c.requires
 
-pub returns-in-Wrote : goal.returns-in-Wrote
-returns-in-Wrote c = ap written_code (sym c.in-Wrote.is)
+pub returns-in-Ok : goal.returns-in-Ok
+returns-in-Ok c = ap written_code (sym c.in-Ok.is)
 
-pub returns-in-Refused : goal.returns-in-Refused
-returns-in-Refused c = c.refusal_code.ensures ∙ ap written_code (sym c.in-Refused.is)
+pub returns-in-Err : goal.returns-in-Err
+returns-in-Err c = c.refusal_code.ensures ∙ ap written_code (sym c.in-Err.is)

@@ -1,33 +1,14 @@
 -- `exports::yunthirel_check_sheet` meets its contract, answer by answer: a faulty line begins inside the sheet, so its place fits. Assumes nothing.
-use Prim.Native.Nat.{◌<◌}
-use mathlib.Core.Path.{sym, ap, subst, ◌∙◌}
-use Rattle.sheet.specs.Limits.{sheet_limit}
-use Rattle.sheet.proofs.Faults.{Inside, fault-inside}
-use Rattle.exports.specs.Codes.{sheet_code}
+use mathlib.Core.Path.{sym, ap, ◌∙◌}
+use Rattle.exports.specs.Codes.{refusal_code, sheet_code}
+use Rattle.exports.proofs.Surfaces.{sheet-placed}
 use Rattle.exports.proofs.yunthirel_check_sheet.Goals as goal
-use Rattle.exports.proofs.yunthirel_check_sheet.Goals.{In-NoForm, In-NotAbove}
 
--- the faulty line begins inside the sheet
-no_form_at : (c : In-NoForm) → c.in-NoForm.at < sheet_limit
-no_form_at c = subst (Inside sheet_limit) (sym c.check_sheet-answer.ensures ∙ c.in-NoForm.is) (fault-inside c.args.sheet.now)
+pub refusal_code-requires : goal.refusal_code-requires
+refusal_code-requires c = rw c.from.ensures (sheet-placed c.args.sheet.now c.in-Err.fault (sym c.check_sheet.ensures ∙ c.in-Err.is))
 
-pub refusal_code-requires-in-NoForm : goal.refusal_code-requires-in-NoForm
-refusal_code-requires-in-NoForm c = (no_form_at (goal.at.refusal_code-requires-in-NoForm c).In-NoForm, tt)
+pub returns-in-Ok : goal.returns-in-Ok
+returns-in-Ok c = ap sheet_code (sym c.in-Ok.is ∙ c.check_sheet.ensures)
 
-not_above_at : (c : In-NotAbove) → c.in-NotAbove.at < sheet_limit
-not_above_at c = subst (Inside sheet_limit) (sym c.check_sheet-answer.ensures ∙ c.in-NotAbove.is) (fault-inside c.args.sheet.now)
-
-pub refusal_code-requires-in-NotAbove : goal.refusal_code-requires-in-NotAbove
-refusal_code-requires-in-NotAbove c = (not_above_at (goal.at.refusal_code-requires-in-NotAbove c).In-NotAbove, tt)
-
-pub returns-in-Accepted : goal.returns-in-Accepted
-returns-in-Accepted c = ap sheet_code (sym c.in-Accepted.is ∙ c.check_sheet-answer.ensures)
-
-pub returns-in-TooLong : goal.returns-in-TooLong
-returns-in-TooLong c = c.refusal_code.ensures ∙ ap sheet_code (sym c.in-TooLong.is ∙ c.check_sheet-answer.ensures)
-
-pub returns-in-NoForm : goal.returns-in-NoForm
-returns-in-NoForm c = c.refusal_code-in-NoForm.ensures ∙ ap sheet_code (sym c.in-NoForm.is ∙ c.check_sheet-answer.ensures)
-
-pub returns-in-NotAbove : goal.returns-in-NotAbove
-returns-in-NotAbove c = c.refusal_code-in-NotAbove.ensures ∙ ap sheet_code (sym c.in-NotAbove.is ∙ c.check_sheet-answer.ensures)
+pub returns-in-Err : goal.returns-in-Err
+returns-in-Err c = c.refusal_code.ensures ∙ ap refusal_code c.from.ensures ∙ ap sheet_code (sym c.in-Err.is ∙ c.check_sheet.ensures)

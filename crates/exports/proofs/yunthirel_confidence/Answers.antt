@@ -3,8 +3,8 @@ use mathlib.Core.Path.{sym, ap, ◌∙◌}
 use Rattle.exports.specs.Codes.{confidence_of}
 use Rattle.exports.proofs.yunthirel_confidence.Goals as goal
 
-pub returns-in-Decided : goal.returns-in-Decided
-returns-in-Decided c = ap confidence_of (sym c.in-Decided.is ∙ c.classify_with_provenance-answer.ensures)
+pub returns-in-Ok : goal.returns-in-Ok
+returns-in-Ok c = ap confidence_of (sym c.in-Ok.is ∙ c.classify_with_provenance.ensures)
 
-pub returns-in-Refused : goal.returns-in-Refused
-returns-in-Refused c = ap confidence_of (sym c.in-Refused.is ∙ c.classify_with_provenance-answer.ensures)
+pub returns-in-Err : goal.returns-in-Err
+returns-in-Err c = ap confidence_of (sym c.in-Err.is ∙ c.classify_with_provenance.ensures)

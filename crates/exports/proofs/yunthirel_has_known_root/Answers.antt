@@ -7,10 +7,10 @@ use Rattle.exports.proofs.yunthirel_has_known_root.Goals as goal
 pub refusal_code-requires : goal.refusal_code-requires
 refusal_code-requires c =
     let a = c.args in
-    known_refused a.word.now a.sheet.now _ _ c.has_known_root-answer.ensures c.in-Refused.is
+    known_refused a.word.now a.sheet.now _ _ c.has_known_root.ensures c.in-Err.is
 
-pub returns-in-Refused : goal.returns-in-Refused
-returns-in-Refused c = c.refusal_code.ensures ∙ ap known_code (sym c.in-Refused.is ∙ c.has_known_root-answer.ensures)
+pub returns-in-Err : goal.returns-in-Err
+returns-in-Err c = c.refusal_code.ensures ∙ ap known_code (sym c.in-Err.is ∙ c.has_known_root.ensures)
 
-pub returns-in-Known : goal.returns-in-Known
-returns-in-Known c = c.yes_code.ensures ∙ ap known_code (sym c.in-Known.is ∙ c.has_known_root-answer.ensures)
+pub returns-in-Ok : goal.returns-in-Ok
+returns-in-Ok c = c.yes_code.ensures ∙ ap known_code (sym c.in-Ok.is ∙ c.has_known_root.ensures)

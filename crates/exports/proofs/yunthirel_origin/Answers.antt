@@ -7,12 +7,12 @@ use Rattle.exports.proofs.yunthirel_origin.Goals as goal
 pub refusal_code-requires : goal.refusal_code-requires
 refusal_code-requires c =
     let a = c.args in
-    decision-refused a.word.now a.sheet.now _ _ c.classify_with_provenance-answer.ensures c.in-Refused.is
+    decision-refused a.word.now a.sheet.now _ _ c.classify_with_provenance.ensures c.in-Err.is
 
-pub returns-in-Decided : goal.returns-in-Decided
-returns-in-Decided c =
-    c.decision_code.ensures ∙ ap origin_code (sym c.in-Decided.is ∙ c.classify_with_provenance-answer.ensures)
+pub returns-in-Ok : goal.returns-in-Ok
+returns-in-Ok c =
+    c.decision_code.ensures ∙ ap origin_code (sym c.in-Ok.is ∙ c.classify_with_provenance.ensures)
 
-pub returns-in-Refused : goal.returns-in-Refused
-returns-in-Refused c =
-    c.refusal_code.ensures ∙ ap origin_code (sym c.in-Refused.is ∙ c.classify_with_provenance-answer.ensures)
+pub returns-in-Err : goal.returns-in-Err
+returns-in-Err c =
+    c.refusal_code.ensures ∙ ap origin_code (sym c.in-Err.is ∙ c.classify_with_provenance.ensures)

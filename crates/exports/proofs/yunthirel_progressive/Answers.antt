@@ -7,17 +7,17 @@ use Rattle.exports.proofs.yunthirel_progressive.Goals as goal
 pub refusal_code-requires : goal.refusal_code-requires
 refusal_code-requires c =
     let a = c.args in
-    analyzed_small a.word.now a.sheet.now _ _ c.analyze_progressive-answer.ensures c.in-Refused.is
+    analyzed_small a.word.now a.sheet.now _ _ c.analyze_progressive.ensures c.in-Err.is
 
 pub form_code-requires : goal.form_code-requires
 form_code-requires c =
     let a = c.args in
-    form_small a.word.now a.sheet.now _ _ c.analyze_progressive-answer.ensures c.in-Given.is
+    form_small a.word.now a.sheet.now _ _ c.analyze_progressive.ensures c.in-Ok.is
 
-pub returns-in-Refused : goal.returns-in-Refused
-returns-in-Refused c =
-    c.refusal_code.ensures ∙ ap progressive_code (sym c.in-Refused.is ∙ c.analyze_progressive-answer.ensures.settled)
+pub returns-in-Err : goal.returns-in-Err
+returns-in-Err c =
+    c.refusal_code.ensures ∙ ap progressive_code (sym c.in-Err.is ∙ c.analyze_progressive.ensures.settled)
 
-pub returns-in-Given : goal.returns-in-Given
-returns-in-Given c =
-    c.form_code.ensures ∙ ap progressive_code (sym c.in-Given.is ∙ c.analyze_progressive-answer.ensures.settled)
+pub returns-in-Ok : goal.returns-in-Ok
+returns-in-Ok c =
+    c.form_code.ensures ∙ ap progressive_code (sym c.in-Ok.is ∙ c.analyze_progressive.ensures.settled)

@@ -1,19 +1,22 @@
--- `write_listing` meets its contract: the first call tells the length, the second writes. Assumes nothing.
-use mathlib.Core.Path.{refl}
-use native.Mathlib.Omega.{arith}
-use Rattle.writing.proofs.Puts.{written-whole, written-not}
+-- `listing::write_listing` meets its contract: the first run tells the length, the second writes. Assumes nothing.
+use Rattle.std.proofs.Common.{arith}
+use mathlib.Core.Path.{◌≡◌, sym, ap, ◌∙◌}
+use Prim.Native.Nat.{ℕ}
+use lib.ListN.{length, take}
+use Rattle.writing.proofs.Wholes.{written_whole, answer_as}
+use Rattle.listing.specs.Texts.{listing_text}
+use Rattle.listing.proofs.Parted.{take_least}
 use Rattle.listing.proofs.write_listing.Goals as goal
+use Rattle.listing.proofs.write_listing.Goals.{Start}
 
-pub slice_bounds-put_listing-end : goal.slice_bounds-put_listing-end
-slice_bounds-put_listing-end c = refl
-
-pub returns-then-out-size : goal.returns-then-out-size
-returns-then-out-size c = let w = written-not c.put_listing-size.ensures.0 c.if-out-size.true in (w, c.put_listing-size.ensures.1)
-
-pub shape_of-out : goal.shape_of-out
-shape_of-out c = c.put_listing.ensures.0.size
+-- a list has 64 rows, of which the first `count` are those listed
+places : (b : Start) → length b.args.list.rows ≡ 64
+places b = b.well_formed.1.0.1.1.0.1.0.1
 
 pub returns : goal.returns
 returns c =
-    let w = written-whole c.put_listing-size.ensures.0 c.if-out-size.false (omega arith) c.put_listing.ensures.0 in
-    (w, c.put_listing-size.ensures.1)
+    let l = places (goal.at.returns c).Start in
+    let rs = c.args.list.rows in
+    let e : take c.min.result rs ≡ take c.args.list.count rs = ap (λ (m : ℕ). take m rs) c.min.ensures ∙ sym (take_least c.args.list.count 64 rs l) in
+    let f : listing_text c.args.word.now (take c.min.result rs) ≡ listing_text c.args.word.now (take c.args.list.count rs) = ap (listing_text c.args.word.now) e in
+    (answer_as f (written_whole c.put_listing-size.ensures.0 c.if-out-size.false (omega arith) c.put_listing.ensures.0), λ h. (rw f at c.put_listing.ensures.1) h)

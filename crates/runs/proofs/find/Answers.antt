@@ -1,18 +1,14 @@
--- `runs::find` meets its contract: the byte is sought from the i-th one on. Assumes nothing.
-use Rattle.std.proofs.Common.{◌≡◌, ◌∙◌, sym, ap, arith, ℕ, ◌+◌}
-use Rattle.runs.specs.Bytes.{index_of, slice}
-use Rattle.runs.proofs.Spots.{index-here, index-on, index-end}
+-- `runs::find` meets its contract: what `position` finds in the part is the place. Assumes nothing.
+use Rattle.std.proofs.Common.{◌-◌, take, drop, arith, rules, tests}
+use Rattle.std.proofs.lemmas.Iterator.{YieldsList-from_slice}
+use Rattle.std.proofs.lemmas.Iterator.Search.{position_from_yields_List}
+use lib.Dec.{eqb}
+use Rattle.runs.proofs.Spots.{index_part}
 use Rattle.runs.proofs.find.Goals as goal
-
-pub returns-then-s-i : goal.returns-then-s-i
-returns-then-s-i c =
-    (sym (c.loop-i.invariant.2 ∙ index-here c.args.s.now c.args.to c.loop-i.i (omega arith) (omega arith) c.args.b c.if-s-i.true), omega arith)
-
-pub loop-i-preserved : goal.loop-i-preserved
-loop-i-preserved c =
-    (omega arith, omega arith, c.loop-i.invariant.2 ∙ index-on c.args.s.now c.args.to c.loop-i.i (omega arith) (omega arith) c.args.b c.if-s-i.false)
 
 pub returns : goal.returns
 returns c =
-    let e : c.loop-i.i ≡ c.args.to = omega arith in
-    (sym (c.loop-i.invariant.2 ∙ ap (λ (i : ℕ). i + index_of c.args.b (slice i c.args.to c.args.s.now)) e ∙ index-end c.args.s.now c.args.to c.args.b), omega arith)
+    let a = c.args in
+    let part = take (a.to - a.from) (drop a.from a.s.now) in
+    let found = position_from_yields_List (λ x. eqb x a.b) _ _ c.position.result c.position.ensures.ran (YieldsList-from_slice part c.iter.ensures.rest) (λ x b q k. search (rules, tests)) in
+    index_part a.s.now a.from a.to a.b c.unwrap_or.result c.position.result (omega arith) (omega arith) found c.unwrap_or.ensures

@@ -1,10 +1,13 @@
 -- `visits::say_refused` tells the line of a refusal: 64 bytes are enough for it. Assumes nothing.
-use native.Mathlib.Omega.{arith}
-use Rattle.writing.proofs.Wholes.{never_short}
+use Rattle.std.proofs.Common.{arith, sym, ◌∙◌}
+use Rattle.refusals.specs.Refusals.{numbers_of}
+use Rattle.writing.specs.Refused.{refused_text}
+use Rattle.writing.proofs.Puts.{put_whole}
 use Rattle.visits.proofs.Told.{refusal_line}
 use Rattle.visits.proofs.say_refused.Goals as goal
 
-pub returns-in-Refused : goal.returns-in-Refused
-returns-in-Refused g c = λ p.
+pub returns : goal.returns
+returns g c = λ p.
     let l = refusal_line c.args.refusal p in
-    absurd (never_short _ _ _ c.write_refused-written.result (omega arith) c.write_refused-written.ensures c.in-Refused.field-0 c.in-Refused.is)
+    let e = put_whole (refused_text (numbers_of c.args.refusal)) c.new-w.ensures c.put.ensures (omega arith) (omega arith) in
+    rw (sym (c.written.ensures ∙ e)) c.write_all.ensures.bytes

@@ -34,7 +34,6 @@ overflow_cast-surface c = omega (arith, few (goal.at.overflow_cast-surface c).Af
 pub visit-walked-requires : goal.visit-walked-requires
 visit-walked-requires c = (
   record {
-    indexed = c.requires.1;
     texts_laid = record { in_bytes = c.affixes-texts.ensures; in_starts = c.affix_starts-cuts.ensures };
     forms-laid = record { in_bytes = c.prefix_forms-forms.ensures; in_starts = c.prefix_form_starts-form_cuts.ensures };
     short = (word-parts c.args.word.now c.requires.0).0;
@@ -43,7 +42,7 @@ visit-walked-requires c = (
   few (goal.at.visit-walked-requires c).After-count-surface,
   omega arith,
   omega arith,
-  (c.requires.2, omega arith),
+  (c.requires.1, omega arith),
   omega arith,
 )
 
@@ -61,10 +60,10 @@ returns c =
     let n = c in
     let a = n.args in (
       c.visit-walked.ensures.0
-          ∙ begun a.word.now _ (reply a.sheet.now) n.count-surface.result _ c.blank-s.ensures
-          ∙ ap (λ (k : ℕ). plus_all a.word.now (rows []) (word_walk (reply a.sheet.now) k a.word.now)) n.count-surface.ensures,
+          ∙ begun a.word.now _ (reply a.sheet.now.bytes.now) n.count-surface.result _ c.blank-s.ensures
+          ∙ ap (λ (k : ℕ). plus_all a.word.now (rows []) (word_walk (reply a.sheet.now.bytes.now) k a.word.now)) n.count-surface.ensures,
       c.visit-walked.ensures.1,
       c.unless_empty-visits.ensures
-          ∙ ap (λ (n : ℕ). pick (eqb (length a.word.now) 0) 0 n) (c.visit-walked.ensures.2 ∙ ap (weighed 4 (reply a.sheet.now) 25 1) (take-length a.word.now))
-          ∙ word_visits (reply a.sheet.now) a.word.now,
+          ∙ ap (λ (n : ℕ). pick (eqb (length a.word.now) 0) 0 n) (c.visit-walked.ensures.2 ∙ ap (weighed 4 (reply a.sheet.now.bytes.now) 25 1) (take-length a.word.now))
+          ∙ word_visits (reply a.sheet.now.bytes.now) a.word.now,
     )

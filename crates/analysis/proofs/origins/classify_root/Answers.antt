@@ -11,4 +11,4 @@ unfolding classified
 returns c =
     let a = c.args in
     c.with_origin.ensures
-    ∙ ap (with_origin a.reading) (c.decide_origin.ensures ∙ ap (decision_of (reply a.sheet.now)) c.root_of.ensures)
+    ∙ ap (with_origin a.reading) (c.decide_origin.ensures ∙ ap (decision_of (reply a.sheet.now.bytes.now)) c.root_of.ensures)

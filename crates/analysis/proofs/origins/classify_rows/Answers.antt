@@ -18,13 +18,10 @@ use Rattle.analysis.proofs.origins.classify_rows.Goals as goal
 pub loop-i-init : goal.loop-i-init
 loop-i-init c =
     let p = c.requires in
-    (omega arith, p.2, p.1, c.nothing-list.ensures.2, refl, p.0)
+    (omega arith, p.1, p.0, c.nothing-list.ensures.2, refl)
 
 pub row_at-r-requires : goal.row_at-r-requires
 row_at-r-requires c = (c.loop-i.invariant.2, omega arith)
-
-pub classify_root-requires : goal.classify_root-requires
-classify_root-requires c = c.loop-i.invariant.5
 
 pub offset_bounds-list-i : goal.offset_bounds-list-i
 offset_bounds-list-i c = omega arith
@@ -58,9 +55,8 @@ loop-i-preserved c =
       c.loop-i.invariant.1,
       c.loop-i.invariant.2,
       simp length-set c.loop-i.invariant.3,
-      grown (classified (reply a.sheet.now) a.word.now) c.loop-i.list.rows (rows_in a.out.now) c.loop-i.i _ _ (omega arith)
+      grown (classified (reply a.sheet.now.bytes.now) a.word.now) c.loop-i.list.rows (rows_in a.out.now) c.loop-i.i _ _ (omega arith)
           (omega (arith, rows-length a.out.now)) c.row_at-r.ensures c.classify_root.ensures c.loop-i.invariant.4,
-      c.loop-i.invariant.5,
     )
 
 pub returns : goal.returns
@@ -69,6 +65,6 @@ returns c =
     let e : c.loop-i.i ≡ a.n = omega arith in (
       ap (λ (j : ℕ). take j c.loop-i.list.rows) (sym e)
           ∙ c.loop-i.invariant.4
-          ∙ ap (λ (j : ℕ). map (classified (reply a.sheet.now) a.word.now) (take j (rows_in a.out.now))) e,
+          ∙ ap (λ (j : ℕ). map (classified (reply a.sheet.now.bytes.now) a.word.now) (take j (rows_in a.out.now))) e,
       refl,
     )

@@ -32,8 +32,8 @@ overflow_add-k c = omega arith
 pub overflow_add-v : goal.overflow_add-v
 overflow_add-v c =
     let a = c.args in
-    let e = visits_turn (prefix_visits 1 (reply a.sheet.now)) (take a.at.end a.word.now) c.loop-k.k c.loop-k.v _ c.loop-k-test.true c.loop-k.invariant.4 c.first_row-r.ensures.2 in
-    omega (arith, e, first-few (reply a.sheet.now) (take a.at.end a.word.now))
+    let e = visits_turn (prefix_visits 1 (reply a.sheet.now.bytes.now)) (take a.at.end a.word.now) c.loop-k.k c.loop-k.v _ c.loop-k-test.true c.loop-k.invariant.4 c.first_row-r.ensures.2 in
+    omega (arith, e, first-few (reply a.sheet.now.bytes.now) (take a.at.end a.word.now))
 
 pub loop-k-smaller-then-begins : goal.loop-k-smaller-then-begins
 loop-k-smaller-then-begins c = omega (arith, c.loop-k-test.true)
@@ -44,8 +44,8 @@ loop-k-preserved-then-begins c =
       omega (arith, c.loop-k-test.true),
       c.first_row-r.ensures.1,
       search rules,
-      c.loop-k.invariant.3 ∙ form_turn a.word.now (each a.word.now a.sheet.now a.at.end a.at.chain a.surface) (take a.at.end a.word.now) c.loop-k.k all_forms (kept_of c.loop-k.out c.loop-k.f) _ c.loop-k-test.true c.first_row-r.ensures.0,
-      visits_turn (prefix_visits 1 (reply a.sheet.now)) (take a.at.end a.word.now) c.loop-k.k c.loop-k.v _ c.loop-k-test.true c.loop-k.invariant.4 c.first_row-r.ensures.2,
+      c.loop-k.invariant.3 ∙ form_turn a.word.now (each a.word.now a.sheet.now.bytes.now a.at.end a.at.chain a.surface) (take a.at.end a.word.now) c.loop-k.k all_forms (kept_of c.loop-k.out c.loop-k.f) _ c.loop-k-test.true c.first_row-r.ensures.0,
+      visits_turn (prefix_visits 1 (reply a.sheet.now.bytes.now)) (take a.at.end a.word.now) c.loop-k.k c.loop-k.v _ c.loop-k-test.true c.loop-k.invariant.4 c.first_row-r.ensures.2,
     )
 
 pub loop-k-smaller : goal.loop-k-smaller
@@ -57,8 +57,8 @@ loop-k-preserved c =
       omega (arith, c.loop-k-test.true),
       c.loop-k.invariant.1,
       c.loop-k.invariant.2,
-      c.loop-k.invariant.3 ∙ form_pass a.word.now (each a.word.now a.sheet.now a.at.end a.at.chain a.surface) (take a.at.end a.word.now) c.loop-k.k all_forms (kept_of c.loop-k.out c.loop-k.f) c.loop-k-test.true (ap (begins_with (form_of c.loop-k.k)) (sym (whole-front a.word.now a.at.end)) ∙ sym c.begins.ensures ∙ c.if-begins.false),
-      visits_pass (prefix_visits 1 (reply a.sheet.now)) (take a.at.end a.word.now) c.loop-k.k c.loop-k.v c.loop-k-test.true c.loop-k.invariant.4 (ap (begins_with (form_of c.loop-k.k)) (sym (whole-front a.word.now a.at.end)) ∙ sym c.begins.ensures ∙ c.if-begins.false),
+      c.loop-k.invariant.3 ∙ form_pass a.word.now (each a.word.now a.sheet.now.bytes.now a.at.end a.at.chain a.surface) (take a.at.end a.word.now) c.loop-k.k all_forms (kept_of c.loop-k.out c.loop-k.f) c.loop-k-test.true (ap (begins_with (form_of c.loop-k.k)) (sym (whole-front a.word.now a.at.end)) ∙ sym c.begins.ensures ∙ c.if-begins.false),
+      visits_pass (prefix_visits 1 (reply a.sheet.now.bytes.now)) (take a.at.end a.word.now) c.loop-k.k c.loop-k.v c.loop-k-test.true c.loop-k.invariant.4 (ap (begins_with (form_of c.loop-k.k)) (sym (whole-front a.word.now a.at.end)) ∙ sym c.begins.ensures ∙ c.if-begins.false),
     )
 
 pub shape_of-out : goal.shape_of-out
@@ -67,4 +67,4 @@ shape_of-out c = c.loop-k.invariant.2
 pub returns : goal.returns
 returns c =
     let a = c.args in
-    (sym (c.loop-k.invariant.3 ∙ form-end a.word.now (each a.word.now a.sheet.now a.at.end a.at.chain a.surface) (take a.at.end a.word.now) c.loop-k.k all_forms (kept_of c.loop-k.out c.loop-k.f) c.loop-k-test.false), c.loop-k.invariant.1, visits_end (prefix_visits 1 (reply a.sheet.now)) (take a.at.end a.word.now) c.loop-k.k c.loop-k.v c.loop-k-test.false c.loop-k.invariant.4)
+    (sym (c.loop-k.invariant.3 ∙ form-end a.word.now (each a.word.now a.sheet.now.bytes.now a.at.end a.at.chain a.surface) (take a.at.end a.word.now) c.loop-k.k all_forms (kept_of c.loop-k.out c.loop-k.f) c.loop-k-test.false), c.loop-k.invariant.1, visits_end (prefix_visits 1 (reply a.sheet.now.bytes.now)) (take a.at.end a.word.now) c.loop-k.k c.loop-k.v c.loop-k-test.false c.loop-k.invariant.4)

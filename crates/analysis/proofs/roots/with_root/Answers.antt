@@ -13,24 +13,24 @@ use Rattle.analysis.proofs.roots.with_root.Goals.{After-is_supported}
 
 -- whether the root is supported
 tested : (c : After-is_supported) → let a = c.args in
-    c.is_supported.result ≡ is_supported (reply a.sheet.now) (between a.word.now a.root a.at.end)
+    c.is_supported.result ≡ is_supported (reply a.sheet.now.bytes.now) (between a.word.now a.root a.at.end)
 tested c =
     let a = c.args in
     c.is_supported.ensures
     ∙ ap (λ (x : Support). supports x (length (between a.word.now a.root a.at.end))) c.support_of-s.ensures
-    ∙ supports_is (reply a.sheet.now) (between a.word.now a.root a.at.end)
+    ∙ supports_is (reply a.sheet.now.bytes.now) (between a.word.now a.root a.at.end)
 
 pub returns-then-not-is_supported : goal.returns-then-not-is_supported
 returns-then-not-is_supported c =
     let a = c.args in
-    (no-root (reply a.sheet.now) a.surface a.at.chain a.word.now a.at.end a.root a.prefixes _ (sym (tested (goal.at.returns-then-not-is_supported c).After-is_supported) ∙ c.if-not-is_supported.true), c.requires.9.1)
+    (no-root (reply a.sheet.now.bytes.now) a.surface a.at.chain a.word.now a.at.end a.root a.prefixes _ (sym (tested (goal.at.returns-then-not-is_supported c).After-is_supported) ∙ c.if-not-is_supported.true), c.requires.8.1)
 
 pub returns : goal.returns
 returns c =
     let a = c.args in
     let q = c.score.ensures ∙ ap (λ (x : Support). score_from a.surface x a.prefixes.count a.at.chain.count) c.support_of-s.ensures
-    ∙ score_is (reply a.sheet.now) (between a.word.now a.root a.at.end) a.surface a.prefixes.count a.at.chain.count in (
+    ∙ score_is (reply a.sheet.now.bytes.now) (between a.word.now a.root a.at.end) a.surface a.prefixes.count a.at.chain.count in (
       c.store.ensures.0
-          ∙ one-root (reply a.sheet.now) a.surface a.at.chain a.word.now a.at.end a.root a.prefixes _ c.score.result (sym (tested (goal.at.returns c).After-is_supported) ∙ c.if-not-is_supported.false) q,
+          ∙ one-root (reply a.sheet.now.bytes.now) a.surface a.at.chain a.word.now a.at.end a.root a.prefixes _ c.score.result (sym (tested (goal.at.returns c).After-is_supported) ∙ c.if-not-is_supported.false) q,
       c.store.ensures.1,
     )

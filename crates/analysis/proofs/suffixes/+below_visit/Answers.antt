@@ -16,7 +16,7 @@ use Rattle.paths.proofs.Totals.{rows_next, rows_end}
 use Rattle.paths.proofs.Weighed.{weighed-fits}
 use Rattle.analysis.proofs.Visited.{row_zero, row_one, row_two, row_zero_ends, piece_stopped, piece_deepest, piece_begun}
 use Rattle.analysis.proofs.Strips.{shorter, row-none, row_plain, row-both, row_turn, row_pass, row-end, piece-progressive, piece-last, piece-rows}
-use Rattle.analysis.proofs.Below.{left_are, plain_in, shared_in, pushed_is, pushed_count, visited, visited_count}
+use Rattle.analysis.proofs.Below.{is_none_else, left_are, plain_in, shared_in, pushed_is, pushed_count, visited, visited_count}
 use Rattle.analysis.proofs.suffixes.+below_visit.Goals as goal
 use Rattle.analysis.proofs.suffixes.+below_visit.Goals.{below-After-suffix_rests-rests, visit-After-with_stem-stem}
 
@@ -29,62 +29,65 @@ rests_are t c =
     c.suffix_rests-rests.ensures
     ∙ ap (rests_of (take c.args.at.end c.args.word.now)) (c.row.ensures ∙ laid-row c.requires.0.texts_laid c.args.k (omega (arith, affix_count, c.requires.4)))
 
-pub below-returns-then-rests-eq0 : goal.below-returns-then-rests-eq0
-below-returns-then-rests-eq0 t c =
+pub below-returns-in_default : goal.below-returns-in_default
+below-returns-in_default t c =
     let a = c.args in
-    let e = rests_are t (goal.at.below-returns-then-rests-eq0 t c).After-suffix_rests-rests in
-    let l = (left_are a.word.now a.at.end a.k c.requires.1 _ e).0 c.if-rests-eq0.true in
+    let e = rests_are t (goal.at.below-returns-in_default t c).After-suffix_rests-rests in
+    let l = (left_are a.word.now a.at.end a.k c.requires.1 _ e).none (is_none_else _ c.in_default.not-Some) in
     let p = take a.at.end a.word.now in
-    (row-none a.word.now p (piece_walk (3 - a.at.chain.count) (reply a.sheet.now) a.surface) (reply a.sheet.now) a.at.chain a.k (kept_of a.out.now a.n) l.0 l.1, c.requires.5.1, row_zero (weighed (3 - a.at.chain.count) (reply a.sheet.now)) a.at.times p a.k l.0 l.1)
+    (row-none a.word.now p (piece_walk (3 - a.at.chain.count) (reply a.sheet.now.bytes.now) a.surface) (reply a.sheet.now.bytes.now) a.at.chain a.k (kept_of a.out.now a.n) l.0 l.1, c.requires.5.1, row_zero (weighed (3 - a.at.chain.count) (reply a.sheet.now.bytes.now)) a.at.times p a.k l.0 l.1)
 
 pub below-visit-f-requires : goal.below-visit-f-requires
 below-visit-f-requires t c =
     let a = c.args in
     let e = rests_are t (goal.at.below-visit-f-requires t c).After-suffix_rests-rests in
-    let i = plain_in a.word.now a.at.end a.k c.requires.1 _ e in
-    let n = pushed_count (reply a.sheet.now) a.at.chain a.k _ c.kind_at-kind.ensures false _ c.pushed-next.ensures in
+    let i = plain_in a.word.now a.at.end a.k c.requires.1 _ e c.in-Some.plain c.in-Some.is in
+    let n = pushed_count (reply a.sheet.now.bytes.now) a.at.chain a.k _ c.kind_at-kind.ensures false _ c.pushed-next.ensures in
     (omega (arith, c.decreases, n, c.requires.3), (c.requires.0, omega (arith, i, c.requires.1), c.requires.2, omega (arith, n, c.requires.3), omega (arith, c.rows_after-rows.ensures.1), c.requires.5, c.times_after-times.ensures.1))
 
-pub below-returns-then-rests-eq1 : goal.below-returns-then-rests-eq1
-below-returns-then-rests-eq1 t c =
+pub below-returns-in_default-shared : goal.below-returns-in_default-shared
+below-returns-in_default-shared t c =
     let a = c.args in
     let r = c.suffix_rests-rests.result in
-    let e = rests_are t (goal.at.below-returns-then-rests-eq1 t c).After-suffix_rests-rests in
-    let l = (left_are a.word.now a.at.end a.k c.requires.1 r e).1 c.if-rests-eq1.true in
-    let i = shorter a.word.now r.plain a.at.end (plain_in a.word.now a.at.end a.k c.requires.1 r e) in
+    let e = rests_are t (goal.at.below-returns-in_default-shared t c).After-suffix_rests-rests in
+    let x = left_are a.word.now a.at.end a.k c.requires.1 r e in
+    let n = c.in-Some.plain in
+    let l0 = x.plain_left n c.in-Some.is in
+    let l1 = x.no_shared_left (is_none_else _ c.in_default-shared.not-Some) in
+    let i = shorter a.word.now n a.at.end (plain_in a.word.now a.at.end a.k c.requires.1 r e n c.in-Some.is) in
     let p = take a.at.end a.word.now in
-    let ask = reply a.sheet.now in
+    let ask = reply a.sheet.now.bytes.now in
     let k = c.kind_at-kind in
     let q = c.pushed-next in
     let rows = c.rows_after-rows in
     let times = c.times_after-times in (
       row_plain a.word.now p (piece_walk (3 - a.at.chain.count) ask a.surface) ask a.at.chain a.k (kept_of a.out.now a.n) q.result rows.result
-          (pushed_is ask a.at.chain a.k _ k.ensures false _ q.ensures) rows.ensures.0 _ _ (l.0 ∙ i)
-          (visited ask a.at.chain a.k _ k.ensures false _ q.ensures a.word.now _ a.surface rows.result _ c.visit-f.ensures.0) l.1,
+          (pushed_is ask a.at.chain a.k _ k.ensures false _ q.ensures) rows.ensures.0 _ _ (l0 ∙ i)
+          (visited ask a.at.chain a.k _ k.ensures false _ q.ensures a.word.now _ a.surface rows.result _ c.visit-f.ensures.0) l1,
       c.visit-f.ensures.1,
-      row_one (weighed (3 - a.at.chain.count) ask) a.at.times p a.k rows.result times.result rows.ensures.0 times.ensures.0 _ _ (l.0 ∙ i)
-          (visited_count ask a.at.chain a.k _ k.ensures false _ q.ensures rows.result times.result _ c.visit-f.ensures.2) l.1,
+      row_one (weighed (3 - a.at.chain.count) ask) a.at.times p a.k rows.result times.result rows.ensures.0 times.ensures.0 _ _ (l0 ∙ i)
+          (visited_count ask a.at.chain a.k _ k.ensures false _ q.ensures rows.result times.result _ c.visit-f.ensures.2) l1,
     )
 
 pub below-visit-g-requires : goal.below-visit-g-requires
 below-visit-g-requires t c =
     let a = c.args in
     let e = rests_are t (goal.at.below-visit-g-requires t c).After-suffix_rests-rests in
-    let i = shared_in a.word.now a.at.end a.k c.requires.1 _ e in
-    let n = pushed_count (reply a.sheet.now) a.at.chain a.k _ c.kind_at-kind.ensures true _ c.pushed-other.ensures in
+    let i = shared_in a.word.now a.at.end a.k c.requires.1 _ e c.in-Some-shared.shared c.in-Some-shared.is in
+    let n = pushed_count (reply a.sheet.now.bytes.now) a.at.chain a.k _ c.kind_at-kind.ensures true _ c.pushed-other.ensures in
     (omega (arith, c.decreases, n, c.requires.3), (c.requires.0, omega (arith, i, c.requires.1), c.requires.2, omega (arith, n, c.requires.3), omega (arith, c.rows_after-rows.ensures.1), (omega (arith, c.requires.5.0, c.visit-f.auto.out), c.visit-f.ensures.1), c.times_after-times.ensures.1))
 
 pub below-overflow_add-result : goal.below-overflow_add-result
 below-overflow_add-result t c =
     let a = c.args in
-    let few : (d rows times : ℕ) (left : List ℕ) → d ≤ 4 → rows ≤ 18 → times ≤ 2 → weighed d (reply a.sheet.now) rows times left ≤ 200000000 =
-    λ d rows times left h e q. weighed-fits (reply a.sheet.now) d rows times left h (omega (arith, e)) q in
+    let few : (d rows times : ℕ) (left : List ℕ) → d ≤ 4 → rows ≤ 18 → times ≤ 2 → weighed d (reply a.sheet.now.bytes.now) rows times left ≤ 200000000 =
+    λ d rows times left h e q. weighed-fits (reply a.sheet.now.bytes.now) d rows times left h (omega (arith, e)) q in
     omega (
       arith,
       c.visit-f.ensures.2,
       c.visit-g.ensures.2,
-      few (4 - c.pushed-next.result.count) c.rows_after-rows.result c.times_after-times.result (take c.suffix_rests-rests.result.plain a.word.now) (omega arith) c.rows_after-rows.ensures.1 c.times_after-times.ensures.1,
-      few (4 - c.pushed-other.result.count) c.rows_after-rows.result c.times_after-times.result (take c.suffix_rests-rests.result.shared a.word.now) (omega arith) c.rows_after-rows.ensures.1 c.times_after-times.ensures.1,
+      few (4 - c.pushed-next.result.count) c.rows_after-rows.result c.times_after-times.result (take c.in-Some.plain a.word.now) (omega arith) c.rows_after-rows.ensures.1 c.times_after-times.ensures.1,
+      few (4 - c.pushed-other.result.count) c.rows_after-rows.result c.times_after-times.result (take c.in-Some-shared.shared a.word.now) (omega arith) c.rows_after-rows.ensures.1 c.times_after-times.ensures.1,
     )
 
 pub below-returns : goal.below-returns
@@ -92,30 +95,34 @@ below-returns t c =
     let a = c.args in
     let r = c.suffix_rests-rests.result in
     let e = rests_are t (goal.at.below-returns t c).After-suffix_rests-rests in
-    let l = (left_are a.word.now a.at.end a.k c.requires.1 r e).2 c.if-rests-eq0.false c.if-rests-eq1.false in
-    let i = shorter a.word.now r.plain a.at.end (plain_in a.word.now a.at.end a.k c.requires.1 r e) in
-    let j = shorter a.word.now r.shared a.at.end (shared_in a.word.now a.at.end a.k c.requires.1 r e) in
+    let x = left_are a.word.now a.at.end a.k c.requires.1 r e in
+    let n = c.in-Some.plain in
+    let o = c.in-Some-shared.shared in
+    let l0 = x.plain_left n c.in-Some.is in
+    let l1 = x.shared_left o c.in-Some-shared.is in
+    let i = shorter a.word.now n a.at.end (plain_in a.word.now a.at.end a.k c.requires.1 r e n c.in-Some.is) in
+    let j = shorter a.word.now o a.at.end (shared_in a.word.now a.at.end a.k c.requires.1 r e o c.in-Some-shared.is) in
     let p = take a.at.end a.word.now in
-    let ask = reply a.sheet.now in
+    let ask = reply a.sheet.now.bytes.now in
     let k = c.kind_at-kind in
     let q = c.pushed-next in
     let m = c.pushed-other in
     let rows = c.rows_after-rows in
     let times = c.times_after-times in (
       row-both a.word.now p (piece_walk (3 - a.at.chain.count) ask a.surface) ask a.at.chain a.k (kept_of a.out.now a.n) q.result rows.result
-          (pushed_is ask a.at.chain a.k _ k.ensures false _ q.ensures) rows.ensures.0 _ _ (l.0 ∙ i)
+          (pushed_is ask a.at.chain a.k _ k.ensures false _ q.ensures) rows.ensures.0 _ _ (l0 ∙ i)
           (visited ask a.at.chain a.k _ k.ensures false _ q.ensures a.word.now _ a.surface rows.result _ c.visit-f.ensures.0)
-          m.result (pushed_is ask a.at.chain a.k _ k.ensures true _ m.ensures) _ _ (l.1 ∙ j)
+          m.result (pushed_is ask a.at.chain a.k _ k.ensures true _ m.ensures) _ _ (l1 ∙ j)
           (visited ask a.at.chain a.k _ k.ensures true _ m.ensures a.word.now _ a.surface rows.result _ c.visit-g.ensures.0),
       c.visit-g.ensures.1,
-      row_two (weighed (3 - a.at.chain.count) ask) a.at.times p a.k rows.result times.result rows.ensures.0 times.ensures.0 _ _ (l.0 ∙ i)
-          (visited_count ask a.at.chain a.k _ k.ensures false _ q.ensures rows.result times.result _ c.visit-f.ensures.2) _ _ (l.1 ∙ j)
+      row_two (weighed (3 - a.at.chain.count) ask) a.at.times p a.k rows.result times.result rows.ensures.0 times.ensures.0 _ _ (l0 ∙ i)
+          (visited_count ask a.at.chain a.k _ k.ensures false _ q.ensures rows.result times.result _ c.visit-f.ensures.2) _ _ (l1 ∙ j)
           (visited_count ask a.at.chain a.k _ k.ensures true _ m.ensures rows.result times.result _ c.visit-g.ensures.2),
     )
 
 -- what an entry counts is at most 8
 each-few : (t : ℕ) (c : visit-After-with_stem-stem t) → c.with_stem-stem.result.visits ≤ 7
-each-few t c = omega (arith, c.with_stem-stem.ensures.2, prefix_two (reply c.args.sheet.now) (take c.args.at.end c.args.word.now))
+each-few t c = omega (arith, c.with_stem-stem.ensures.2, prefix_two (reply c.args.sheet.now.bytes.now) (take c.args.at.end c.args.word.now))
 
 pub visit-overflow_add-each : goal.visit-overflow_add-each
 visit-overflow_add-each t c = omega (arith, each-few t (goal.at.visit-overflow_add-each t c).After-with_stem-stem)
@@ -128,7 +135,7 @@ visit-returns-then-progressive t c =
     let a = c.args in
     let s = c.with_stem-stem in
     let p = take a.at.end a.word.now in
-    let ask = reply a.sheet.now in
+    let ask = reply a.sheet.now.bytes.now in
     let e = sym c.has_supported_progressive_form-progressive.ensures ∙ c.if-progressive.true in (
       piece-progressive a.word.now p ask a.surface a.at.chain a.at.rows (kept_of a.out.now a.n) _ s.ensures.0 (4 - a.at.chain.count) e,
       s.ensures.1,
@@ -140,7 +147,7 @@ visit-returns-then-chain-ge-STRIPS t c =
     let a = c.args in
     let s = c.with_stem-stem in
     let p = take a.at.end a.word.now in
-    let ask = reply a.sheet.now in (
+    let ask = reply a.sheet.now.bytes.now in (
       piece-last a.word.now p ask a.surface a.at.chain a.at.rows (kept_of a.out.now a.n) _ s.ensures.0 (4 - a.at.chain.count) (omega (arith, c.if-chain-ge-STRIPS.true)),
       s.ensures.1,
       piece_deepest ask a.at.rows a.at.times p _ s.ensures.2 _ (4 - a.at.chain.count) (omega (arith, c.if-chain-ge-STRIPS.true)) c.counted-visits.ensures.0,
@@ -154,7 +161,7 @@ visit-loop-k-init t c =
     let a = c.args in
     let s = c.with_stem-stem in
     let p = take a.at.end a.word.now in
-    let ask = reply a.sheet.now in
+    let ask = reply a.sheet.now.bytes.now in
     let n : 4 - a.at.chain.count ≡ suc (3 - a.at.chain.count) = omega (arith, c.if-chain-ge-STRIPS.false) in (
       omega arith,
       s.ensures.1,
@@ -178,7 +185,7 @@ pub visit-overflow_add-v : goal.visit-overflow_add-v
 visit-overflow_add-v t c =
     let a = c.args in
     let p = take a.at.end a.word.now in
-    let ask = reply a.sheet.now in
+    let ask = reply a.sheet.now.bytes.now in
     omega (
       arith,
       turned (row_weighed (weighed (3 - a.at.chain.count) ask) a.at.times p) _ _ c.loop-k.k a.at.rows _ c.loop-k-test.true c.loop-k.invariant.4 c.below-r.ensures.2,
@@ -190,7 +197,7 @@ visit-loop-k-preserved-then-ends t c =
     let a = c.args in
     let l = c.loop-k in
     let p = take a.at.end a.word.now in
-    let ask = reply a.sheet.now in (
+    let ask = reply a.sheet.now.bytes.now in (
       omega (arith, c.loop-k-test.true),
       c.below-r.ensures.1,
       c.below-r.auto.out ∙ l.invariant.2,
@@ -204,7 +211,7 @@ visit-loop-k-preserved t c =
     let a = c.args in
     let l = c.loop-k in
     let p = take a.at.end a.word.now in
-    let ask = reply a.sheet.now in
+    let ask = reply a.sheet.now.bytes.now in
     let n = sym c.ends.ensures ∙ c.if-ends.false in (
       omega (arith, c.loop-k-test.true),
       l.invariant.1,
@@ -223,7 +230,7 @@ visit-returns t c =
     let l = c.loop-k in
     let s = c.with_stem-stem in
     let p = take a.at.end a.word.now in
-    let ask = reply a.sheet.now in
+    let ask = reply a.sheet.now.bytes.now in
     let n : 4 - a.at.chain.count ≡ suc (3 - a.at.chain.count) = omega (arith, c.if-chain-ge-STRIPS.false) in (
       sym (row-end a.word.now p (piece_walk (3 - a.at.chain.count) ask a.surface) ask a.at.chain l.k a.at.rows (kept_of l.out l.f) c.loop-k-test.false)
           ∙ sym l.invariant.3

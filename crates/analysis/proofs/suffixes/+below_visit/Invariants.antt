@@ -17,10 +17,10 @@ decreases-visit l = 2 * (4 - l.at.chain.count) + 1
 abbrev pub invariant-visit-loop-k : goal.invariant-visit-loop-k
 invariant-visit-loop-k l =
     (l.k ≤ l.rows) × (l.f ≤ list_limit + 1) × (length l.out ≡ length l.initial.out)
-    × (plus_all l.word (kept_of l.initial.out l.initial.f) (rows_walk (piece_walk (3 - l.at.chain.count) (reply l.sheet) l.surface) (reply l.sheet) l.at.chain (take l.at.end l.word) 0 l.rows)
-    ≡ plus_all l.word (kept_of l.out l.f) (rows_walk (piece_walk (3 - l.at.chain.count) (reply l.sheet) l.surface) (reply l.sheet) l.at.chain (take l.at.end l.word) l.k (l.rows - l.k)))
-    × (weighed (4 - l.at.chain.count) (reply l.sheet) l.rows l.at.times (take l.at.end l.word)
-    ≡ l.v + total_rows (row_weighed (weighed (3 - l.at.chain.count) (reply l.sheet)) l.at.times (take l.at.end l.word)) l.k (l.rows - l.k))
+    × (plus_all l.word (kept_of l.initial.out l.initial.f) (rows_walk (piece_walk (3 - l.at.chain.count) (reply l.sheet.bytes.now) l.surface) (reply l.sheet.bytes.now) l.at.chain (take l.at.end l.word) 0 l.rows)
+    ≡ plus_all l.word (kept_of l.out l.f) (rows_walk (piece_walk (3 - l.at.chain.count) (reply l.sheet.bytes.now) l.surface) (reply l.sheet.bytes.now) l.at.chain (take l.at.end l.word) l.k (l.rows - l.k)))
+    × (weighed (4 - l.at.chain.count) (reply l.sheet.bytes.now) l.rows l.at.times (take l.at.end l.word)
+    ≡ l.v + total_rows (row_weighed (weighed (3 - l.at.chain.count) (reply l.sheet.bytes.now)) l.at.times (take l.at.end l.word)) l.k (l.rows - l.k))
 
 abbrev pub decreases-visit-loop-k : goal.decreases-visit-loop-k
 decreases-visit-loop-k l = l.rows - l.k

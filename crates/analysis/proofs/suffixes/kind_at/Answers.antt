@@ -14,17 +14,14 @@ use Rattle.analysis.proofs.suffixes.kind_at.Goals as goal
 use Rattle.analysis.proofs.suffixes.kind_at.Goals.{After-kind_of-listed}
 
 pub row-requires : goal.row-requires
-row-requires c = laid-asks c.requires.1 c.args.k (omega (arith, affix_count, c.requires.2))
-
-pub kind_of-listed-requires : goal.kind_of-listed-requires
-kind_of-listed-requires c = c.requires.0
+row-requires c = laid-asks c.requires.0 c.args.k (omega (arith, affix_count, c.requires.1))
 
 -- what the sheet says of the row's text
 asked : (c : After-kind_of-listed) → let a = c.args in
-    c.kind_of-listed.result ≡ kind_told (reply a.sheet.now 0x6B (get_or affixes a.k []))
+    c.kind_of-listed.result ≡ kind_told (reply a.sheet.now.bytes.now 0x6B (get_or affixes a.k []))
 unfolding kind_for
 asked c =
-    c.kind_of-listed.ensures ∙ ap (kind_for c.args.sheet.now) (c.row.ensures ∙ laid-row c.requires.1 c.args.k (omega (arith, affix_count, c.requires.2)))
+    c.kind_of-listed.ensures ∙ ap (kind_for c.args.sheet.now.bytes.now) (c.row.ensures ∙ laid-row c.requires.0 c.args.k (omega (arith, affix_count, c.requires.1)))
 
 pub returns-in-Unlisted : goal.returns-in-Unlisted
 returns-in-Unlisted c =

@@ -22,22 +22,22 @@ inside : (c : In-loop-k) → c.loop-k.k < length affixes
 inside c = omega (arith, affix_count, c.loop-k-test.true)
 
 pub row-text-requires : goal.row-text-requires
-row-text-requires c = laid-asks c.requires.2 _ (inside (goal.at.row-text-requires c).In-loop-k)
+row-text-requires c = laid-asks c.requires.1 _ (inside (goal.at.row-text-requires c).In-loop-k)
 
 pub is_known-requires : goal.is_known-requires
-is_known-requires c = (c.requires.0, c.requires.1)
+is_known-requires c = c.requires.0
 
 -- what is asked of the row
 asked : (c : After-is_known) → let a = c.args in
-    c.is_known.result ≡ is_known (reply a.sheet.now) (a.piece.now ++ get_or affixes c.loop-k.k [])
+    c.is_known.result ≡ is_known (reply a.sheet.now.bytes.now) (a.piece.now ++ get_or affixes c.loop-k.k [])
 asked c =
     c.is_known.ensures
-    ∙ ap (λ (t : List ℕ). is_known (reply c.args.sheet.now) (c.args.piece.now ++ t)) (c.row-text.ensures ∙ laid-row c.requires.2 c.loop-k.k (inside (up-In-loop-k _ _ _ _ _ c.before.before.before)))
+    ∙ ap (λ (t : List ℕ). is_known (reply c.args.sheet.now.bytes.now) (c.args.piece.now ++ t)) (c.row-text.ensures ∙ laid-row c.requires.1 c.loop-k.k (inside (up-In-loop-k _ _ _ _ _ c.before.before.before)))
 
 pub returns-then-is_known : goal.returns-then-is_known
 returns-then-is_known c =
     let a = c.args in
-    sym (c.loop-k.invariant.1 ∙ known_here (reply a.sheet.now) a.piece.now affixes c.loop-k.k (inside (goal.at.returns-then-is_known c).In-loop-k) (sym (asked (goal.at.returns-then-is_known c).After-is_known) ∙ c.if-is_known.true))
+    sym (c.loop-k.invariant.1 ∙ known_here (reply a.sheet.now.bytes.now) a.piece.now affixes c.loop-k.k (inside (goal.at.returns-then-is_known c).In-loop-k) (sym (asked (goal.at.returns-then-is_known c).After-is_known) ∙ c.if-is_known.true))
 
 pub overflow_add-k : goal.overflow_add-k
 overflow_add-k c = omega arith
@@ -48,9 +48,9 @@ loop-k-smaller c = omega arith
 pub loop-k-preserved : goal.loop-k-preserved
 loop-k-preserved c =
     let a = c.args in
-    (omega arith, c.loop-k.invariant.1 ∙ known_next (reply a.sheet.now) a.piece.now affixes c.loop-k.k (inside (goal.at.loop-k-preserved c).In-loop-k) (sym (asked (goal.at.loop-k-preserved c).After-is_known) ∙ c.if-is_known.false))
+    (omega arith, c.loop-k.invariant.1 ∙ known_next (reply a.sheet.now.bytes.now) a.piece.now affixes c.loop-k.k (inside (goal.at.loop-k-preserved c).In-loop-k) (sym (asked (goal.at.loop-k-preserved c).After-is_known) ∙ c.if-is_known.false))
 
 pub returns : goal.returns
 returns c =
     let a = c.args in
-    sym (c.loop-k.invariant.1 ∙ known_end (reply a.sheet.now) a.piece.now affixes c.loop-k.k (omega (arith, affix_count, c.loop-k-test.false)))
+    sym (c.loop-k.invariant.1 ∙ known_end (reply a.sheet.now.bytes.now) a.piece.now affixes c.loop-k.k (omega (arith, affix_count, c.loop-k-test.false)))

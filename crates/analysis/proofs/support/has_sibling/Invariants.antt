@@ -9,7 +9,7 @@ use Rattle.paths.specs.Support.{known_with}
 use Rattle.analysis.proofs.support.has_sibling.Given as goal
 
 abbrev pub invariant-loop-k : goal.invariant-loop-k
-invariant-loop-k l = (l.k ≤ all_rows) × (known_with (reply l.sheet) l.piece affixes ≡ known_with (reply l.sheet) l.piece (drop l.k affixes))
+invariant-loop-k l = (l.k ≤ all_rows) × (known_with (reply l.sheet.bytes.now) l.piece affixes ≡ known_with (reply l.sheet.bytes.now) l.piece (drop l.k affixes))
 
 abbrev pub decreases-loop-k : goal.decreases-loop-k
 decreases-loop-k l = all_rows - l.k

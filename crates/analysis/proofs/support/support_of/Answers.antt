@@ -16,19 +16,19 @@ use Rattle.analysis.proofs.support.support_of.Goals.{After-letters_in-letters, T
 
 -- where no name begins with the root, nothing that begins so has a reply
 unasked : (c : Then-range) → let a = c.args in
-    (q : List ℕ) → reply a.sheet.now 0x77 (a.root.now ++ q) ≡ Reply.unknown
+    (q : List ℕ) → reply a.sheet.now.bytes.now 0x77 (a.root.now ++ q) ≡ Reply.unknown
 unasked c q =
-    none_begun c.args.sheet.now 0x77 c.args.root.now c.args.starts.now c.requires.0 c.range_of-range.result c.range_of-range.ensures q c.if-range.true
+    none_begun c.args.sheet.now.bytes.now 0x77 c.args.root.now c.args.sheet.now.starts.now c.args.sheet.now.indexed c.range_of-range.result c.range_of-range.ensures q c.if-range.true
 
 pub returns-then-range : goal.returns-then-range
 returns-then-range c =
     let r = c.args.root.now in
-    let e : reply c.args.sheet.now 0x77 r ≡ Reply.unknown = ap (reply c.args.sheet.now 0x77) (sym (append-nil r)) ∙ unasked (goal.at.returns-then-range c).Then-range [] in
-    same_support (ap (λ (x : Reply). (letters_told x).word) (sym e)) (ap (λ (x : Reply). (letters_told x).head) (sym e)) (sym (none_known (reply c.args.sheet.now) r _ (unasked (goal.at.returns-then-range c).Then-range))) c.requires.2
+    let e : reply c.args.sheet.now.bytes.now 0x77 r ≡ Reply.unknown = ap (reply c.args.sheet.now.bytes.now 0x77) (sym (append-nil r)) ∙ unasked (goal.at.returns-then-range c).Then-range [] in
+    same_support (ap (λ (x : Reply). (letters_told x).word) (sym e)) (ap (λ (x : Reply). (letters_told x).head) (sym e)) (sym (none_known (reply c.args.sheet.now.bytes.now) r _ (unasked (goal.at.returns-then-range c).Then-range))) c.requires.1
 
 -- the letters are those of the root
 own : (c : After-letters_in-letters) → let a = c.args in
-    c.letters_in-letters.result ≡ letters_told (reply a.sheet.now 0x77 (a.root.now ++ []))
+    c.letters_in-letters.result ≡ letters_told (reply a.sheet.now.bytes.now 0x77 (a.root.now ++ []))
 unfolding letters_for
 own c = c.letters_in-letters.ensures
 
@@ -38,14 +38,14 @@ returns-then-is_alone c =
     let alone = sym c.is_alone.ensures ∙ c.if-is_alone.true in
     let few : c.range_of-range.result.hi ≤ c.range_of-range.result.lo + 1 = omega (arith, leb-true (c.range_of-range.result.hi - c.range_of-range.result.lo) 1 (and_left _ _ alone)) in
     let some = has-reply _ _ (own (goal.at.returns-then-is_alone c).After-letters_in-letters) (and_right (leb (c.range_of-range.result.hi - c.range_of-range.result.lo) 1) _ alone) in
-    let e = own (goal.at.returns-then-is_alone c).After-letters_in-letters ∙ ap (λ (n : List ℕ). letters_told (reply c.args.sheet.now 0x77 n)) (append-nil r) in
+    let e = own (goal.at.returns-then-is_alone c).After-letters_in-letters ∙ ap (λ (n : List ℕ). letters_told (reply c.args.sheet.now.bytes.now 0x77 n)) (append-nil r) in
     same_support (ap (λ (x : Letters). x.word) e) (ap (λ (x : Letters). x.head) e)
-    (sym (alone_known (reply c.args.sheet.now) r
-    (λ q n. alone_begun c.args.sheet.now 0x77 r c.args.starts.now c.requires.0 c.range_of-range.result c.range_of-range.ensures few [] q (λ z. omega (arith, n, z)) some)))
-    c.requires.2
+    (sym (alone_known (reply c.args.sheet.now.bytes.now) r
+    (λ q n. alone_begun c.args.sheet.now.bytes.now 0x77 r c.args.sheet.now.starts.now c.args.sheet.now.indexed c.range_of-range.result c.range_of-range.ensures few [] q (λ z. omega (arith, n, z)) some)))
+    c.requires.1
 
 pub returns : goal.returns
 unfolding letters_for
 returns c =
-    let e = c.letters_in-letters.ensures ∙ ap (letters_for c.args.sheet.now) (append-nil c.args.root.now) in
-    same_support (ap (λ (x : Letters). x.word) e) (ap (λ (x : Letters). x.head) e) c.has_sibling-sibling.ensures c.requires.2
+    let e = c.letters_in-letters.ensures ∙ ap (letters_for c.args.sheet.now.bytes.now) (append-nil c.args.root.now) in
+    same_support (ap (λ (x : Letters). x.word) e) (ap (λ (x : Letters). x.head) e) c.has_sibling-sibling.ensures c.requires.1

@@ -1,54 +1,56 @@
 -- `entry::put_line` meets its contract: the given line takes the place that was found for it. Assumes nothing.
+use Rattle.std.specs.Prelude.{Ok}
+use Rattle.std.proofs.lemmas.Result.{err_from_is_err_and}
 use Prim.Native.Nat.{◌≤◌}
 use native.Mathlib.Omega.{arith}
 use mathlib.Core.Path.{subst}
 use lib.ListN.{length, take}
 use Rattle.corrected.specs.Answers.{opening_of}
 use Rattle.corrected.specs.Spans.{Opens}
-use Rattle.corrected.specs.declared.place.Opened.TheVariants.{At}
 use Rattle.corrected.proofs.Answered.{short, inside, put_refused, put-none, put-over, put_done}
 use Rattle.corrected.proofs.entry.put_line.Goals as goal
-use Rattle.corrected.proofs.entry.put_line.Goals.{In-At}
+use Rattle.corrected.proofs.entry.put_line.Goals.{In_ok-span}
 
-told : (c : In-At) → let a = c.args in
-    Opens (opening_of a.buffer.now a.used a.line.now) (take a.used a.buffer.now) a.line.now (At c.in-At.span)
+told : (c : In_ok-span) → let a = c.args in
+    Opens (opening_of a.buffer.now a.used a.line.now) (take a.used a.buffer.now) a.line.now (Ok c.in_ok-span.span)
 told c =
     let a = c.args in
-    subst (Opens (opening_of a.buffer.now a.used a.line.now) (take a.used a.buffer.now) a.line.now) c.in-At.is c.find_line-found.ensures
+    subst (Opens (opening_of a.buffer.now a.used a.line.now) (take a.used a.buffer.now) a.line.now) c.in_ok-span.was c.find_line.ensures
 
-within : (c : In-At) → (c.in-At.span.to ≤ c.args.used) × (c.args.used ≤ length c.args.buffer.now)
+within : (c : In_ok-span) → (c.in_ok-span.span.to ≤ c.args.used) × (c.args.used ≤ length c.args.buffer.now)
 within c =
     let t = told c in
     (inside _ _ _ t.0 t.1 _ t.2, short _ _ _ t.0 t.1 _ t.2)
 
 pub overflow_add-size : goal.overflow_add-size
-overflow_add-size c = omega (arith, (within (goal.at.overflow_add-size c).In-At).0, (within (goal.at.overflow_add-size c).In-At).1, (told (goal.at.overflow_add-size c).In-At).2.ordered, c.well_formed)
+overflow_add-size c = omega (arith, (within (goal.at.overflow_add-size c).In_ok-span).0, (within (goal.at.overflow_add-size c).In_ok-span).1, (told (goal.at.overflow_add-size c).In_ok-span).2.ordered, c.well_formed)
 
 pub overflow_sub-size : goal.overflow_sub-size
-overflow_sub-size c = omega (arith, (within (goal.at.overflow_sub-size c).In-At).0, (told (goal.at.overflow_sub-size c).In-At).2.ordered)
+overflow_sub-size c = omega (arith, (within (goal.at.overflow_sub-size c).In_ok-span).0, (told (goal.at.overflow_sub-size c).In_ok-span).2.ordered)
 
-pub overflow_add-size-in-At : goal.overflow_add-size-in-At
-overflow_add-size-in-At c = omega (arith, (within (goal.at.overflow_add-size-in-At c).In-At).0, (within (goal.at.overflow_add-size-in-At c).In-At).1, (told (goal.at.overflow_add-size-in-At c).In-At).2.ordered, c.well_formed)
+pub overflow_add-size-2 : goal.overflow_add-size-2
+overflow_add-size-2 c = omega (arith, (within (goal.at.overflow_add-size-2 c).In_ok-span).0, (within (goal.at.overflow_add-size-2 c).In_ok-span).1, (told (goal.at.overflow_add-size-2 c).In_ok-span).2.ordered, c.well_formed)
 
 pub returns-then-buffer-size : goal.returns-then-buffer-size
-returns-then-buffer-size c = let t = told (goal.at.returns-then-buffer-size c).In-At in put-none _ _ _ t.0 t.1 _ t.2 c.if-buffer-size.true
+returns-then-buffer-size c = let t = told (goal.at.returns-then-buffer-size c).In_ok-span in put-none _ _ _ t.0 t.1 _ t.2 c.if-buffer-size.true
 
 pub returns-then-size-gt-SHEET_BYTES : goal.returns-then-size-gt-SHEET_BYTES
-returns-then-size-gt-SHEET_BYTES c = let t = told (goal.at.returns-then-size-gt-SHEET_BYTES c).In-At in put-over _ _ _ t.0 t.1 _ t.2 c.if-buffer-size.false c.if-size-gt-SHEET_BYTES.true
+returns-then-size-gt-SHEET_BYTES c = let t = told (goal.at.returns-then-size-gt-SHEET_BYTES c).In_ok-span in put-over _ _ _ t.0 t.1 _ t.2 c.if-buffer-size.false c.if-size-gt-SHEET_BYTES.true
 
 pub replace-requires : goal.replace-requires
 replace-requires c =
-    let k = (told (goal.at.replace-requires c).In-At).2.ordered in
-    let i = within (goal.at.replace-requires c).In-At in
+    let k = (told (goal.at.replace-requires c).In_ok-span).2.ordered in
+    let i = within (goal.at.replace-requires c).In_ok-span in
     let r = c.if-buffer-size.false in
     (omega (arith, k), omega (arith, k, i.0), i.1, omega (arith, k, r))
 
-pub returns-in-Refused : goal.returns-in-Refused
-returns-in-Refused c =
+pub returns-in_err-span : goal.returns-in_err-span
+returns-in_err-span c =
     let a = c.args in
-    put_refused _ _ _ _ (subst (Opens (opening_of a.buffer.now a.used a.line.now) (take a.used a.buffer.now) a.line.now) c.in-Refused.is c.find_line-found.ensures)
+    let p = err_from_is_err_and c.from_residual.result c.from_residual.ensures.1 in
+    rw (p.1, p.2) (put_refused _ _ _ _ (subst (Opens (opening_of a.buffer.now a.used a.line.now) (take a.used a.buffer.now) a.line.now) c.in_err-span.was c.find_line.ensures))
 
-pub returns-else-size-gt-SHEET_BYTES : goal.returns-else-size-gt-SHEET_BYTES
-returns-else-size-gt-SHEET_BYTES c =
-    let t = told (goal.at.returns-else-size-gt-SHEET_BYTES c).In-At in
+pub returns : goal.returns
+returns c =
+    let t = told (goal.at.returns c).In_ok-span in
     put_done _ _ _ t.0 t.1 _ t.2 c.if-buffer-size.false c.if-size-gt-SHEET_BYTES.false _ c.replace.ensures

@@ -2,20 +2,20 @@
 use mathlib.Core.Path.{◌≡◌, sym, ◌∙◌}
 use Rattle.sheet.specs.Replies.{reply}
 use Rattle.decomposition.specs.Strips.{is_kept}
-use Rattle.decomposition.proofs.Taken.{open_none, open_kept, open_free, kept}
+use Rattle.decomposition.proofs.Taken.{none_if, open_none, open_kept, open_free, kept}
 use Rattle.decomposition.proofs.suffixes.open_rests.Goals as goal
 use Rattle.decomposition.proofs.suffixes.open_rests.Goals.{After-bars}
 
-pub returns-then-rests-eq0 : goal.returns-then-rests-eq0
-returns-then-rests-eq0 c = let a = c.args in open_none (reply a.sheet.now) a.piece.now a.suffix.now c.suffix_rests-rests.result c.suffix_rests-rests.ensures c.if-rests-eq0.true
+pub returns-then-is_none : goal.returns-then-is_none
+returns-then-is_none c = let a = c.args in open_none (reply a.sheet.now.bytes.now) a.piece.now a.suffix.now c.suffix_rests-rests.result c.suffix_rests-rests.ensures (none_if _ c.if-is_none.ensures)
 
 -- whether the rule keeps the piece
 barred : (c : After-bars) →
     let a = c.args in
-    c.bars.result ≡ is_kept (reply a.sheet.now) a.piece.now a.suffix.now
+    c.bars.result ≡ is_kept (reply a.sheet.now.bytes.now) a.piece.now a.suffix.now
 barred c =
     let a = c.args in
-    kept a.sheet.now a.piece.now a.suffix.now c.letters_of-own.result c.bars.result c.letters_of-own.ensures c.bars.ensures
+    kept a.sheet.now.bytes.now a.piece.now a.suffix.now c.letters_of-own.result c.bars.result c.letters_of-own.ensures c.bars.ensures
 
 pub returns-then-bars : goal.returns-then-bars
 returns-then-bars c = open_kept _ _ _ (sym (barred (goal.at.returns-then-bars c).After-bars) ∙ c.if-bars.true)

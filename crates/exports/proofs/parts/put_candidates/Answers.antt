@@ -22,9 +22,6 @@ offset_bounds-list-i c = omega arith
 pub bounds-list-i : goal.bounds-list-i
 bounds-list-i c = omega arith
 
-pub overflow_mul-at : goal.overflow_mul-at
-overflow_mul-at c = omega arith
-
 pub slice_bounds-put_candidate-count : goal.slice_bounds-put_candidate-count
 slice_bounds-put_candidate-count c = omega arith
 
@@ -33,12 +30,6 @@ slice_bounds-put_candidate-start c = omega arith
 
 pub put_candidate-requires : goal.put_candidate-requires
 put_candidate-requires c = omega arith
-
-pub overflow_add-i : goal.overflow_add-i
-overflow_add-i c = omega arith
-
-pub loop-i-smaller : goal.loop-i-smaller
-loop-i-smaller c = omega arith
 
 pub loop-i-preserved : goal.loop-i-preserved
 loop-i-preserved c =

@@ -1,20 +1,20 @@
 -- `parts::yunthirel_decompose` meets its contract. Assumes nothing.
-use mathlib.Core.Path.{refl, sym, ap, ◌∙◌}
-use Rattle.sheet.specs.declared.inputs.Inputs.{Inputs}
-use Rattle.exports.specs.Filled.{decompose_if}
-use Rattle.exports.proofs.Bounds.{inputs_refused}
-use Rattle.exports.proofs.Put.{answer_inputs, decompose_is, both}
+use mathlib.Core.Path.{refl, sym, ◌∙◌}
+use Rattle.sheet.proofs.Refusals.{refused-placed}
+use Rattle.exports.proofs.Put.{answer_refused, decompose_is, both}
 use Rattle.exports.proofs.parts.yunthirel_decompose.Goals as goal
 
 pub refusal_code-requires : goal.refusal_code-requires
-refusal_code-requires c = let a = c.args in inputs_refused a.word.now a.sheet.now _ _ (answer_inputs a.word.now a.sheet.now c.decompose-answer.result c.decompose-answer.ensures) c.in-Refused.is
-
-pub returns-in-Refused : goal.returns-in-Refused
-returns-in-Refused c =
+refusal_code-requires c =
     let a = c.args in
-    both (ap (λ (i : Inputs). decompose_if i c.decompose-answer.result.morpheme a.out.now) (sym c.in-Refused.is) ∙ decompose_is a.word.now a.sheet.now a.out.now c.decompose-answer.result c.decompose-answer.ensures) (c.refusal_code.ensures, refl)
+    refused-placed a.word.now a.sheet.now _ (answer_refused a.word.now a.sheet.now _ (sym c.in-Err.is ∙ c.decompose.ensures))
 
-pub returns-in-Accepted : goal.returns-in-Accepted
-returns-in-Accepted c =
+pub returns-in-Err : goal.returns-in-Err
+returns-in-Err c =
     let a = c.args in
-    both (ap (λ (i : Inputs). decompose_if i c.decompose-answer.result.morpheme a.out.now) (sym c.in-Accepted.is) ∙ decompose_is a.word.now a.sheet.now a.out.now c.decompose-answer.result c.decompose-answer.ensures) c.put_morpheme.ensures
+    both (decompose_is a.word.now a.sheet.now a.out.now _ (sym c.in-Err.is ∙ c.decompose.ensures)) (c.refusal_code.ensures, refl)
+
+pub returns-in-Ok : goal.returns-in-Ok
+returns-in-Ok c =
+    let a = c.args in
+    both (decompose_is a.word.now a.sheet.now a.out.now _ (sym c.in-Ok.is ∙ c.decompose.ensures)) c.put_morpheme.ensures

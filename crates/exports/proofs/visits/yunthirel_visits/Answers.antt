@@ -8,16 +8,16 @@ use Rattle.exports.proofs.visits.yunthirel_visits.Goals as goal
 pub refusal_code-requires : goal.refusal_code-requires
 refusal_code-requires c =
     let a = c.args in
-    visits_told a.word.now a.sheet.now _ _ c.visits_of-answer.ensures c.in-Refused.is
+    visits_told a.word.now a.sheet.now _ _ c.visits_of.ensures c.in-Err.is
 
 pub overflow_mul-result : goal.overflow_mul-result
 overflow_mul-result c =
     let a = c.args in
-    let n = visits_told a.word.now a.sheet.now _ _ c.visits_of-answer.ensures c.in-Given.is in
+    let n = visits_told a.word.now a.sheet.now _ _ c.visits_of.ensures c.in-Ok.is in
     omega (arith, n)
 
-pub returns-in-Refused : goal.returns-in-Refused
-returns-in-Refused c = c.refusal_code.ensures ∙ ap visits_code (sym c.in-Refused.is ∙ c.visits_of-answer.ensures)
+pub returns-in-Err : goal.returns-in-Err
+returns-in-Err c = c.refusal_code.ensures ∙ ap visits_code (sym c.in-Err.is ∙ c.visits_of.ensures)
 
-pub returns-in-Given : goal.returns-in-Given
-returns-in-Given c = ap visits_code (sym c.in-Given.is ∙ c.visits_of-answer.ensures)
+pub returns-in-Ok : goal.returns-in-Ok
+returns-in-Ok c = ap visits_code (sym c.in-Ok.is ∙ c.visits_of.ensures)

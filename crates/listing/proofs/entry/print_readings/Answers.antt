@@ -3,13 +3,13 @@ use mathlib.Core.Path.{sym, ◌∙◌}
 use Rattle.listing.proofs.Told.{prints-refused, prints-listed}
 use Rattle.listing.proofs.entry.print_readings.Goals as goal
 
-pub returns-in-Refused : goal.returns-in-Refused
-returns-in-Refused c =
+pub returns-in-Err : goal.returns-in-Err
+returns-in-Err c =
     let a = c.args in
-    prints-refused a.word.now a.sheet.now _ (sym c.analyze_affixes-analysis.ensures.0 ∙ c.in-Refused.is) c.write_refused.ensures
+    prints-refused a.word.now a.sheet.now _ (sym c.analyze_affixes-analysis.ensures.0 ∙ c.in-Err.is) c.write_refused.ensures
 
-pub returns-in-Listed : goal.returns-in-Listed
-returns-in-Listed c =
+pub returns-in-Ok : goal.returns-in-Ok
+returns-in-Ok c =
     let a = c.args in
-    prints-listed a.word.now a.sheet.now _ (sym c.analyze_affixes-analysis.ensures.0 ∙ c.in-Listed.is) c.analyze_affixes-analysis.ensures.1
+    prints-listed a.word.now a.sheet.now _ (sym c.analyze_affixes-analysis.ensures.0 ∙ c.in-Ok.is) c.analyze_affixes-analysis.ensures.1
     c.write_listing.ensures.0 c.write_listing.ensures.1

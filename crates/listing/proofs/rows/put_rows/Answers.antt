@@ -1,50 +1,45 @@
--- `rows::put_rows` meets its contract: the rows put so far and those to come are all rows. Assumes nothing.
+-- `rows::put_rows` meets its contract: the rows put so far and those to come are all of them, and those put are short. Assumes nothing.
 use native.Mathlib.Omega.{arith}
-use mathlib.Core.Path.{◌≡◌, ap}
-use lib.ListN.{length}
-use Rattle.ranking.specs.Places.{no_row}
-use Rattle.ranking.proofs.Puts.{scan_next, scan-end}
-use Rattle.listing.specs.Texts.{row_texts}
-use Rattle.writing.proofs.Puts.{upto-none, upto-more, upto_all}
+use mathlib.Core.Path.{◌≡◌, refl, sym, ap, ◌∙◌}
+use Prim.Native.Nat.{ℕ, ◌+◌, ◌<◌}
+use mathlib.Core.List.{List, ◌∷◌}
+use lib.ListN.{length, drop, get_or, drop_of_length-le}
+use lib.Seq.{drop-cons}
+use native.Mathlib.Numerals.{add-one}
+use Rattle.std.proofs.lemmas.List.Sums.{fold-append}
+use Rattle.writing.specs.declared.Writer.{Writer}
+use Rattle.writing.specs.Writers.{with_byte, with_text}
+use Rattle.ranking.specs.declared.Classified.{Classified}
+use Rattle.listing.specs.Texts.{row_text, row_texts}
 use Rattle.listing.proofs.Room.{rows_turn, rows_end}
 use Rattle.listing.proofs.rows.put_rows.Goals as goal
 
-pub loop-i-init : goal.loop-i-init
-loop-i-init c =
-    let l : length c.args.list.rows ≡ 64 = c.well_formed.1.1.1.1.1.1.1.0.1.1.0.1.0.1 in
-    (omega arith, omega (arith, c.requires.2), upto-none _ _ _ (omega arith), λ _. omega arith)
+-- the row of a turn, and those behind it
+next : (w : List ℕ) (xs : List Classified) (i : ℕ) (d : Classified) → i < length xs → drop i xs ≡ get_or xs i d ∷ drop (i + 1) xs
+next w xs i d h = rw add-one (drop-cons xs i d h)
 
-pub offset_bounds-list-i : goal.offset_bounds-list-i
-offset_bounds-list-i c = omega (arith, c.requires.2)
+next_row : (v : Writer) (w : List ℕ) (xs : List Classified) (i : ℕ) (d : Classified) → i < length xs
+    → with_text v (row_texts w (drop i xs)) ≡ with_text (with_text v (row_text w (get_or xs i d))) (row_texts w (drop (i + 1) xs))
+next_row v w xs i d h =
+    ap (λ (rs : List Classified). with_text v (row_texts w rs)) (next w xs i d h) ∙ fold-append with_byte v (row_text w (get_or xs i d)) (row_texts w (drop (i + 1) xs))
 
-pub bounds-list-i : goal.bounds-list-i
-bounds-list-i c = omega (arith, c.requires.2)
+pub loop-row-init : goal.loop-row-init
+loop-row-init c = (refl, λ _. omega arith)
 
-pub put_row-next-requires : goal.put_row-next-requires
-put_row-next-requires c = let p = c.requires in (p.0, p.1)
-
-pub overflow_add-i : goal.overflow_add-i
-overflow_add-i c = omega arith
-
-pub loop-i-smaller : goal.loop-i-smaller
-loop-i-smaller c = omega arith
-
-pub loop-i-preserved : goal.loop-i-preserved
-loop-i-preserved c =
+pub loop-row-preserved : goal.loop-row-preserved
+loop-row-preserved c =
     let a = c.args in
-    let l = c.loop-i in
-    let e = scan_next a.list.rows a.n no_row l.invariant.1 l.i (omega arith) in (
-      omega arith,
-      l.invariant.1,
-      upto-more l.invariant.2 c.put_row-next.ensures.0 (ap (row_texts a.word.now) e),
-      λ h. rows_turn a.word.now l.i _ _ (l.invariant.3 h) _ _ e (c.put_row-next.ensures.1 h),
+    let l = c.loop-row in
+    let w = a.word.now in
+    let put = c.put_row.ensures in (
+      ap (λ (v : Writer). with_text v (row_texts w (drop (l.row-index + 1) a.rows.now))) put.0 ∙ sym (next_row l.w w a.rows.now l.row-index _ c.loop-row-test.true) ∙ l.invariant.0,
+      λ h. rows_turn w l.row-index _ _ (l.invariant.1 h) _ _ (next w a.rows.now l.row-index _ c.loop-row-test.true) (put.1 h),
     )
-
-pub shape_of-out : goal.shape_of-out
-shape_of-out c = c.loop-i.invariant.2.wrote.size
 
 pub returns : goal.returns
 returns c =
     let a = c.args in
-    let e = scan-end a.list.rows a.n no_row c.loop-i.invariant.1 c.loop-i.i c.loop-i-test.false in
-    (upto_all c.loop-i.invariant.2 (ap (row_texts a.word.now) e), λ h. rows_end a.word.now c.loop-i.i _ _ (c.loop-i.invariant.3 h) a.n c.loop-i.invariant.0 e)
+    let e = drop_of_length-le a.rows.now (omega (arith, c.loop-row-test.false)) in (
+      ap (λ (rs : List Classified). with_text c.loop-row.w (row_texts a.word.now rs)) (sym e) ∙ c.loop-row.invariant.0,
+      λ h. rows_end a.word.now c.loop-row.row-index _ _ (c.loop-row.invariant.1 h) _ (omega arith) e,
+    )

@@ -4,12 +4,12 @@ use Rattle.listing.specs.Printed.{readings_text}
 use Rattle.writing.proofs.Wholes.{whole, never_short}
 use Rattle.listing.proofs.whole.readings_of.Goals as goal
 
-pub returns-in-Wrote : goal.returns-in-Wrote
-returns-in-Wrote c =
+pub returns-in-Ok : goal.returns-in-Ok
+returns-in-Ok c =
     let a = c.args in
-    whole (readings_text a.word.now a.sheet.now) a.out.now _ _ (omega (arith, c.print_readings-written.ensures.1)) c.print_readings-written.ensures.0 _ c.in-Wrote.is
+    whole (readings_text a.word.now a.sheet.now) a.out.now _ _ (omega (arith, c.print_readings-written.ensures.1)) c.print_readings-written.ensures.0 _ c.in-Ok.is
 
-pub returns-in-Refused : goal.returns-in-Refused
-returns-in-Refused c =
+pub returns-in-Err : goal.returns-in-Err
+returns-in-Err c =
     let a = c.args in
-    absurd (never_short (readings_text a.word.now a.sheet.now) a.out.now _ _ (omega (arith, c.print_readings-written.ensures.1)) c.print_readings-written.ensures.0 _ c.in-Refused.is)
+    absurd (never_short (readings_text a.word.now a.sheet.now) a.out.now _ _ (omega (arith, c.print_readings-written.ensures.1)) c.print_readings-written.ensures.0 _ c.in-Err.is)

@@ -1,4 +1,5 @@
 -- `answers::value_at` meets its contract: the value stands between the line's own ends. Assumes nothing.
+use Rattle.std.specs.Prelude.{Some}
 use mathlib.Core.Path.{sym, ap, subst, ◌∙◌}
 use Prim.Native.Nat.{◌+◌, ◌≤◌}
 use native.Mathlib.Omega.{arith}
@@ -6,37 +7,36 @@ use lib.ListN.{length}
 use Rattle.sheet.specs.Steps.{value_end}
 use Rattle.sheet.proofs.Forms.{line-fits}
 use Rattle.lookup.specs.Answers.{FormAt, value_spot}
-use Rattle.lookup.specs.declared.search.Found.TheVariants.{At}
 use Rattle.lookup.proofs.Parts.{value-spot}
 use Rattle.lookup.proofs.answers.value_at.Goals as goal
-use Rattle.lookup.proofs.answers.value_at.Goals.{In-At}
+use Rattle.lookup.proofs.answers.value_at.Goals.{In-Some}
 
 pub returns-in_default : goal.returns-in_default
 returns-in_default c =
     (ap (value_spot c.args.sheet.now) (sym c.in_default.is), omega arith)
 
 -- the line found
-line : (c : In-At) → let a = c.args in FormAt a.sheet.now (At c.in-At.at)
-line c = subst (FormAt c.args.sheet.now) c.in-At.is c.requires
+line : (c : In-Some) → let a = c.args in FormAt a.sheet.now (Some c.in-Some.at)
+line c = subst (FormAt c.args.sheet.now) c.in-Some.is c.requires
 
-room : (c : In-At) → let a = c.args in value_end a.sheet.now c.in-At.at + 3 ≤ length a.sheet.now
-room c = let a = c.args in line-fits a.sheet.now c.in-At.at (line c)
+room : (c : In-Some) → let a = c.args in value_end a.sheet.now c.in-Some.at + 3 ≤ length a.sheet.now
+room c = let a = c.args in line-fits a.sheet.now c.in-Some.at (line c)
 
 pub name_end-end-requires : goal.name_end-end-requires
-name_end-end-requires c = line (goal.at.name_end-end-requires c).In-At
+name_end-end-requires c = line (goal.at.name_end-end-requires c).In-Some
 
 pub overflow_add-from : goal.overflow_add-from
-overflow_add-from c = omega (arith, room (goal.at.overflow_add-from c).In-At, c.name_end-end.ensures)
+overflow_add-from c = omega (arith, room (goal.at.overflow_add-from c).In-Some, c.name_end-end.ensures)
 
 pub value_end-to-requires : goal.value_end-to-requires
-value_end-to-requires c = (line (goal.at.value_end-to-requires c).In-At, c.name_end-end.ensures)
+value_end-to-requires c = (line (goal.at.value_end-to-requires c).In-Some, c.name_end-end.ensures)
 
 pub overflow_sub-len : goal.overflow_sub-len
 overflow_sub-len c = omega (arith, c.name_end-end.ensures, c.value_end-to.ensures)
 
 pub returns : goal.returns
 returns c = (
-  value-spot c.args.sheet.now c.in-At.at c.name_end-end.result c.name_end-end.ensures c.value_end-to.result c.value_end-to.ensures
-      ∙ ap (value_spot c.args.sheet.now) (sym c.in-At.is),
-  omega (arith, room (goal.at.returns c).In-At, c.name_end-end.ensures, c.value_end-to.ensures),
+  value-spot c.args.sheet.now c.in-Some.at c.name_end-end.result c.name_end-end.ensures c.value_end-to.result c.value_end-to.ensures
+      ∙ ap (value_spot c.args.sheet.now) (sym c.in-Some.is),
+  omega (arith, room (goal.at.returns c).In-Some, c.name_end-end.ensures, c.value_end-to.ensures),
 )

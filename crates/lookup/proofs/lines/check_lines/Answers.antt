@@ -2,21 +2,36 @@
 -- lines to come, are the starts of all lines. Assumes nothing.
 use Prim.Native.Nat.{ℕ, ◌<◌, ◌≤◌}
 use native.Mathlib.Omega.{arith}
-use mathlib.Core.Path.{◌≡◌, refl, sym, ap, ◌∙◌}
+use mathlib.Core.Path.{◌≡◌, refl, sym, ap, subst, ◌∙◌}
 use mathlib.Core.List.{List, ◌∷◌, ◌++◌, append-nil}
 use lib.ListN.{length, take, get_or, length-set}
 use lib.Seq.{length-take-le}
-use Rattle.sheet.specs.Lines.{starts_of}
+use Rattle.sheet.specs.Lines.{starts_of, sheet_check}
 use Rattle.sheet.specs.Walks.{starts_ahead}
 use Rattle.sheet.proofs.Walks.{Formed, turn, check_long, check_walk}
 use Rattle.lookup.specs.Starts.{Room}
-use Rattle.lookup.specs.Stored.{stored_in}
+use Rattle.lookup.specs.Stored.{Counted, counted, stored_in, Stored}
+use Rattle.std.specs.Prelude.{Result, Ok, Err}
+use Rattle.sheet.specs.declared.check.SheetFault.{SheetFault}
+use Rattle.sheet.specs.declared.check.SheetFault.TheVariants.{TooLong, NoForm, NotAbove}
 use Rattle.lookup.proofs.Count.{stored-front, stored-behind, stored_far, line_next}
 use Rattle.lookup.proofs.lines.check_lines.Goals as goal
 use Rattle.lookup.proofs.lines.check_lines.Goals.{At-loop-next, In-Form}
 
+-- a number of lines is the same as another
+okay : {n m : ℕ} → n ≡ m → ◌≡◌ {A = Result ℕ SheetFault} (Ok n) (Ok m)
+okay e = cc
+
+-- what was said is v, with so many lines stored
+told : (s before after : List ℕ) (v : Result (Unit {0}) SheetFault) (r : Result ℕ SheetFault) (n : ℕ) → v ≡ sheet_check s → r ≡ counted v (length (starts_of s)) →
+    Counted s v n → after ≡ stored_in s n before → Stored s before after r
+told s before after v r n e f k o = record {
+  said = f ∙ ap (λ (x : Result (Unit {0}) SheetFault). counted x (length (starts_of s))) e;
+  stored = (n, subst (λ (x : Result (Unit {0}) SheetFault). Counted s x n) e k, o);
+}
+
 pub returns-then-s-gt-SHEET_BYTES : goal.returns-then-s-gt-SHEET_BYTES
-returns-then-s-gt-SHEET_BYTES c = record { said = check_long _ c.if-s-gt-SHEET_BYTES.true; lines = refl; stored = refl }
+returns-then-s-gt-SHEET_BYTES c = told c.args.s.now _ _ (Err TooLong) _ 0 (check_long _ c.if-s-gt-SHEET_BYTES.true) refl refl refl
 
 pub loop-next-init : goal.loop-next-init
 loop-next-init c = (omega arith, tt, check_walk _ c.if-s-gt-SHEET_BYTES.false, refl, omega arith, refl, refl)
@@ -44,11 +59,8 @@ pub returns-in-End : goal.returns-in-End
 returns-in-End c =
     let e = turn c.args.s.now c.loop-next.walk _ (sym c.in-End.is ∙ c.step-line.ensures) in
     let p : starts_of c.args.s.now ≡ take c.loop-next.n c.loop-next.out = c.loop-next.invariant.5 ∙ ap (λ (l : List ℕ). take c.loop-next.n c.loop-next.out ++ l) e.starts ∙ append-nil _ in
-    record {
-      said = sym (c.loop-next.invariant.2 ∙ e.said);
-      lines = sym (ap length p ∙ length-take-le c.loop-next.n c.loop-next.out (few (goal.at.returns-in-End c).At-loop-next));
-      stored = stored (goal.at.returns-in-End c).At-loop-next;
-    }
+    let n : c.loop-next.n ≡ length (starts_of c.args.s.now) = sym (ap length p ∙ length-take-le c.loop-next.n c.loop-next.out (few (goal.at.returns-in-End c).At-loop-next)) in
+    told c.args.s.now _ _ (Ok tt) _ c.loop-next.n (sym (c.loop-next.invariant.2 ∙ e.said)) (okay n) n (stored (goal.at.returns-in-End c).At-loop-next)
 
 pub shape_of-out-in-End : goal.shape_of-out-in-End
 shape_of-out-in-End c = c.loop-next.invariant.3
@@ -62,12 +74,12 @@ shape_of-out-in-NotAbove c = c.loop-next.invariant.3
 pub returns-in-NoForm : goal.returns-in-NoForm
 returns-in-NoForm c =
     let e = turn c.args.s.now c.loop-next.walk _ (sym c.in-NoForm.is ∙ c.step-line.ensures) in
-    record { said = sym (c.loop-next.invariant.2 ∙ e.said); lines = line_at (goal.at.returns-in-NoForm c).At-loop-next _ _ e.starts; stored = stored (goal.at.returns-in-NoForm c).At-loop-next }
+    told c.args.s.now _ _ (Err (NoForm _)) _ c.loop-next.n (sym (c.loop-next.invariant.2 ∙ e.said)) refl (line_at (goal.at.returns-in-NoForm c).At-loop-next _ _ e.starts) (stored (goal.at.returns-in-NoForm c).At-loop-next)
 
 pub returns-in-NotAbove : goal.returns-in-NotAbove
 returns-in-NotAbove c =
     let e = turn c.args.s.now c.loop-next.walk _ (sym c.in-NotAbove.is ∙ c.step-line.ensures) in
-    record { said = sym (c.loop-next.invariant.2 ∙ e.said); lines = line_at (goal.at.returns-in-NotAbove c).At-loop-next _ _ e.starts; stored = stored (goal.at.returns-in-NotAbove c).At-loop-next }
+    told c.args.s.now _ _ (Err (NotAbove _)) _ c.loop-next.n (sym (c.loop-next.invariant.2 ∙ e.said)) refl (line_at (goal.at.returns-in-NotAbove c).At-loop-next _ _ e.starts) (stored (goal.at.returns-in-NotAbove c).At-loop-next)
 
 -- the form that was reached
 form : (c : In-Form) → Formed c.args.s.now c.loop-next.walk c.in-Form.letter c.in-Form.name_end c.in-Form.value_end c.in-Form.next

@@ -1,10 +1,13 @@
--- `entries::classify` meets its contract, answer by answer. Assumes nothing.
+-- `entries::classify` meets its contract: the decision's origin alone. Assumes nothing.
+use Rattle.std.proofs.lemmas.Result.{err_from_is_err_and}
 use mathlib.Core.Path.{sym, ap, ◌∙◌}
 use Rattle.origin.specs.Answers.{origin_only}
 use Rattle.origin.proofs.entries.classify.Goals as goal
 
-pub returns-in-Decided : goal.returns-in-Decided
-returns-in-Decided c = ap origin_only (sym c.in-Decided.is ∙ c.classify_with_provenance-answer.ensures)
+pub returns-in_err-decision : goal.returns-in_err-decision
+returns-in_err-decision c =
+    let p = err_from_is_err_and c.from_residual.result c.from_residual.ensures.1 in
+    rw (p.1, p.2) (ap origin_only (sym c.in_err-decision.was ∙ c.classify_with_provenance.ensures))
 
-pub returns-in-Refused : goal.returns-in-Refused
-returns-in-Refused c = ap origin_only (sym c.in-Refused.is ∙ c.classify_with_provenance-answer.ensures)
+pub returns : goal.returns
+returns c = ap origin_only (sym c.in_ok-decision.was ∙ c.classify_with_provenance.ensures)

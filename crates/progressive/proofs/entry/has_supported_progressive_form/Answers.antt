@@ -1,13 +1,15 @@
 -- `entry::has_supported_progressive_form` meets its contract: an answer says whether a form is found. Assumes nothing.
+use Rattle.std.proofs.lemmas.Result.{err_from_is_err_and}
 use Rattle.progressive.proofs.Entries.{support_settled}
 use Rattle.progressive.proofs.entry.has_supported_progressive_form.Goals as goal
 
-pub returns-in-Refused : goal.returns-in-Refused
-returns-in-Refused c =
+pub returns-in_err-form : goal.returns-in_err-form
+returns-in_err-form c =
     let a = c.args in
-    support_settled a.word.now a.sheet.now _ _ c.analyze_progressive-answer.ensures c.in-Refused.is
+    let p = err_from_is_err_and c.from_residual.result c.from_residual.ensures.1 in
+    rw (p.1, p.2) (support_settled a.word.now a.sheet.now _ _ c.analyze_progressive.ensures c.in_err-form.was)
 
-pub returns-in-Given : goal.returns-in-Given
-returns-in-Given c =
+pub returns : goal.returns
+returns c =
     let a = c.args in
-    support_settled a.word.now a.sheet.now _ _ c.analyze_progressive-answer.ensures c.in-Given.is
+    support_settled a.word.now a.sheet.now _ _ c.analyze_progressive.ensures c.in_ok-form.was

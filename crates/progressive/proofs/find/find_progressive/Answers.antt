@@ -27,18 +27,18 @@ long c = shaped_fits _ (shape (up-Else-not-is_shaped _ _ _ c.before.before.befor
 -- रहनु is a verb, so the lemma is sought
 asked : (c : Else-not-is_verb) →
     let a = c.args in
-    progressive_of (reply a.sheet.now) a.word.now ≡ searched (reply a.sheet.now) (linked_of a.word.now) (stem_of a.word.now)
+    progressive_of (reply a.sheet.now.bytes.now) a.word.now ≡ searched (reply a.sheet.now.bytes.now) (linked_of a.word.now) (stem_of a.word.now)
 asked c =
     let a = c.args in
-    is_searched a.sheet.now a.word.now (shape (up-Else-not-is_shaped _ _ _ c.before.before.before.before.before.before.before)) (sym c.is_verb.ensures ∙ c.if-not-is_verb.false)
+    is_searched a.sheet.now.bytes.now a.word.now (shape (up-Else-not-is_shaped _ _ _ c.before.before.before.before.before.before.before)) (sym c.is_verb.ensures ∙ c.if-not-is_verb.false)
 
 -- the first search found nothing
 left : (c : Else-lemma) →
     let a = c.args in
-    progressive_of (reply a.sheet.now) a.word.now ≡ again a.sheet.now a.word.now
+    progressive_of (reply a.sheet.now.bytes.now) a.word.now ≡ again a.sheet.now.bytes.now a.word.now
 left c =
     let a = c.args in
-    goes_again a.sheet.now a.word.now (asked (up-Else-not-is_verb _ _ _ c.before.before.before)) _ c.supported_infinitive-lemma.ensures c.if-lemma.false
+    goes_again a.sheet.now.bytes.now a.word.now (asked (up-Else-not-is_verb _ _ _ c.before.before.before)) _ c.supported_infinitive-lemma.ensures c.if-lemma.false
 
 -- the stem begins with न
 na : (c : Else-not-begins_with) →
@@ -56,10 +56,10 @@ stem_long c =
 -- the second search is that of linked form and stem without the न
 positive : (c : After-supported_infinitive-positive) →
     let a = c.args in
-    LemmaAt a.sheet.now (lemma_of (reply a.sheet.now) (drop 3 (linked_of a.word.now)) (drop 3 (stem_of a.word.now))) c.supported_infinitive-positive.result
+    LemmaAt a.sheet.now.bytes.now (lemma_of (reply a.sheet.now.bytes.now) (drop 3 (linked_of a.word.now)) (drop 3 (stem_of a.word.now))) c.supported_infinitive-positive.result
 positive c =
     let a = c.args in
-    let s = a.sheet.now in
+    let s = a.sheet.now.bytes.now in
     let w = a.word.now in
     let r = c.supported_infinitive-positive.result in
     let k = subst (λ (l : List ℕ). LemmaAt s (lemma_of (reply s) l (take (length w - 18 - 3) (drop 3 w))) r) (front_rest 3 (length w - 15) w) c.supported_infinitive-positive.ensures in
@@ -68,12 +68,12 @@ positive c =
 pub returns-then-not-is_shaped : goal.returns-then-not-is_shaped
 returns-then-not-is_shaped c =
     let a = c.args in
-    none-form a.sheet.now a.word.now _ (not_shaped a.sheet.now a.word.now (sym c.is_shaped.ensures ∙ c.if-not-is_shaped.true)) c.no_form.ensures
+    none-form a.sheet.now.bytes.now a.word.now _ (not_shaped a.sheet.now.bytes.now a.word.now (sym c.is_shaped.ensures ∙ c.if-not-is_shaped.true)) c.no_form.ensures
 
 pub returns-then-not-is_verb : goal.returns-then-not-is_verb
 returns-then-not-is_verb c =
     let a = c.args in
-    none-form a.sheet.now a.word.now _ (no_auxiliary a.sheet.now a.word.now (shape (goal.at.returns-then-not-is_verb c).Else-not-is_shaped) (sym c.is_verb.ensures ∙ c.if-not-is_verb.true)) c.no_form-then-not-is_verb.ensures
+    none-form a.sheet.now.bytes.now a.word.now _ (no_auxiliary a.sheet.now.bytes.now a.word.now (shape (goal.at.returns-then-not-is_verb c).Else-not-is_shaped) (sym c.is_verb.ensures ∙ c.if-not-is_verb.true)) c.no_form-then-not-is_verb.ensures
 
 pub overflow_sub-main_end : goal.overflow_sub-main_end
 overflow_sub-main_end c = let f = long (goal.at.overflow_sub-main_end c).Else-not-is_verb in omega arith
@@ -90,7 +90,7 @@ slice_bounds-supported_infinitive-end-2 c = let f = long (goal.at.slice_bounds-s
 pub returns-then-lemma : goal.returns-then-lemma
 returns-then-lemma c =
     let a = c.args in
-    first_found a.sheet.now a.word.now (asked (goal.at.returns-then-lemma c).Else-not-is_verb) _ c.supported_infinitive-lemma.ensures c.if-lemma.true _ c.form_with.ensures
+    first_found a.sheet.now.bytes.now a.word.now (asked (goal.at.returns-then-lemma c).Else-not-is_verb) _ c.supported_infinitive-lemma.ensures c.if-lemma.true _ c.form_with.ensures
 
 pub slice_bounds-begins_with-end : goal.slice_bounds-begins_with-end
 slice_bounds-begins_with-end c = let f = long (goal.at.slice_bounds-begins_with-end c).Else-not-is_verb in sym (length-take-le _ _ (omega arith))
@@ -98,7 +98,7 @@ slice_bounds-begins_with-end c = let f = long (goal.at.slice_bounds-begins_with-
 pub returns-then-not-begins_with : goal.returns-then-not-begins_with
 returns-then-not-begins_with c =
     let a = c.args in
-    none-form a.sheet.now a.word.now _ (no_na a.sheet.now a.word.now (left (goal.at.returns-then-not-begins_with c).Else-lemma) (sym c.begins_with.ensures ∙ c.if-not-begins_with.true)) c.no_form-then-not-begins_with.ensures
+    none-form a.sheet.now.bytes.now a.word.now _ (no_na a.sheet.now.bytes.now a.word.now (left (goal.at.returns-then-not-begins_with c).Else-lemma) (sym c.begins_with.ensures ∙ c.if-not-begins_with.true)) c.no_form-then-not-begins_with.ensures
 
 pub slice_bounds-supported_infinitive-count : goal.slice_bounds-supported_infinitive-count
 slice_bounds-supported_infinitive-count c = let f = stem_long (goal.at.slice_bounds-supported_infinitive-count c).Else-not-begins_with in omega arith
@@ -115,9 +115,9 @@ slice_bounds-supported_infinitive-start-2 c = omega (arith, stem_long (goal.at.s
 pub returns-then-not-positive : goal.returns-then-not-positive
 returns-then-not-positive c =
     let a = c.args in
-    none-form a.sheet.now a.word.now _ (second_none a.sheet.now a.word.now (left (goal.at.returns-then-not-positive c).Else-lemma) (na (goal.at.returns-then-not-positive c).Else-not-begins_with) _ (positive (goal.at.returns-then-not-positive c).After-supported_infinitive-positive) (not-true _ c.if-not-positive.true)) c.no_form-then-not-positive.ensures
+    none-form a.sheet.now.bytes.now a.word.now _ (second_none a.sheet.now.bytes.now a.word.now (left (goal.at.returns-then-not-positive c).Else-lemma) (na (goal.at.returns-then-not-positive c).Else-not-begins_with) _ (positive (goal.at.returns-then-not-positive c).After-supported_infinitive-positive) (not-true _ c.if-not-positive.true)) c.no_form-then-not-positive.ensures
 
 pub returns : goal.returns
 returns c =
     let a = c.args in
-    second_found a.sheet.now a.word.now (left (goal.at.returns c).Else-lemma) (na (goal.at.returns c).Else-not-begins_with) _ (positive (goal.at.returns c).After-supported_infinitive-positive) (not-false _ c.if-not-positive.false) _ c.form_with-2.ensures
+    second_found a.sheet.now.bytes.now a.word.now (left (goal.at.returns c).Else-lemma) (na (goal.at.returns c).Else-not-begins_with) _ (positive (goal.at.returns c).After-supported_infinitive-positive) (not-false _ c.if-not-positive.false) _ c.form_with-2.ensures

@@ -5,4 +5,4 @@ use Rattle.progressive.proofs.find.has_supported_progressive_form.Goals as goal
 pub returns : goal.returns
 returns c =
     let a = c.args in
-    found-form a.sheet.now a.piece.now _ c.find_progressive-form.ensures
+    found-form a.sheet.now.bytes.now a.piece.now _ c.find_progressive-form.ensures

@@ -9,10 +9,10 @@ use Rattle.progressive.proofs.find.linked_verb.Goals as goal
 pub returns-then-not-link : goal.returns-then-not-link
 returns-then-not-link c =
     let a = c.args in
-    no-lemma a.sheet.now _ (untold a.sheet.now a.link (not-true _ c.if-not-link.true))
+    no-lemma a.sheet.now.bytes.now _ (untold a.sheet.now.bytes.now a.link (not-true _ c.if-not-link.true))
 
 pub returns : goal.returns
 returns c =
     let a = c.args in
-    let s = a.sheet.now in
+    let s = a.sheet.now.bytes.now in
     subst (λ (m : Lemma). LemmaAt s m c.verb_at.result) (told-verb s a.link (not-false _ c.if-not-link.false)) c.verb_at.ensures

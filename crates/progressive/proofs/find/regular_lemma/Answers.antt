@@ -13,56 +13,56 @@ use Rattle.progressive.proofs.find.regular_lemma.Goals.{Else-closed, Else-not-en
 -- stem+नु is no verb
 opened : (c : Else-open) →
     let a = c.args in
-    regular (reply a.sheet.now) a.linked.now a.stem.now ≡ after_open a.sheet.now a.linked.now a.stem.now
+    regular (reply a.sheet.now.bytes.now) a.linked.now a.stem.now ≡ after_open a.sheet.now.bytes.now a.linked.now a.stem.now
 opened c =
     let a = c.args in
-    open_next a.sheet.now a.linked.now a.stem.now _ c.verb_at-open.ensures c.if-open.false
+    open_next a.sheet.now.bytes.now a.linked.now a.stem.now _ c.verb_at-open.ensures c.if-open.false
 
 -- nor is stem+्नु
 shut : (c : Else-closed) →
     let a = c.args in
-    regular (reply a.sheet.now) a.linked.now a.stem.now ≡ after_closed a.sheet.now a.linked.now a.stem.now
+    regular (reply a.sheet.now.bytes.now) a.linked.now a.stem.now ≡ after_closed a.sheet.now.bytes.now a.linked.now a.stem.now
 shut c =
     let a = c.args in
-    opened (up-Else-open _ _ _ c.before.before.before.before.before) ∙ closed_next a.sheet.now a.linked.now a.stem.now _ c.verb_at-closed.ensures c.if-closed.false
+    opened (up-Else-open _ _ _ c.before.before.before.before.before) ∙ closed_next a.sheet.now.bytes.now a.linked.now a.stem.now _ c.verb_at-closed.ensures c.if-closed.false
 
 -- the stem ends in ा or आ
 vowels : (c : Else-not-ends_in_aa) →
     let a = c.args in
-    after_closed a.sheet.now a.linked.now a.stem.now
-    ≡ verb_or (reply a.sheet.now) (a.stem.now ++ (letter_u ++ syllable_nu)) (last a.sheet.now a.linked.now a.stem.now)
+    after_closed a.sheet.now.bytes.now a.linked.now a.stem.now
+    ≡ verb_or (reply a.sheet.now.bytes.now) (a.stem.now ++ (letter_u ++ syllable_nu)) (last a.sheet.now.bytes.now a.linked.now a.stem.now)
 vowels c =
     let a = c.args in
-    with_vowel a.sheet.now a.linked.now a.stem.now (sym c.ends_in_aa.ensures ∙ c.if-not-ends_in_aa.false)
+    with_vowel a.sheet.now.bytes.now a.linked.now a.stem.now (sym c.ends_in_aa.ensures ∙ c.if-not-ends_in_aa.false)
 
 pub returns-then-open : goal.returns-then-open
 returns-then-open c =
     let a = c.args in
-    open_found a.sheet.now a.linked.now a.stem.now _ c.verb_at-open.ensures c.if-open.true
+    open_found a.sheet.now.bytes.now a.linked.now a.stem.now _ c.verb_at-open.ensures c.if-open.true
 
 pub returns-then-closed : goal.returns-then-closed
 returns-then-closed c =
     let a = c.args in
-    let s = a.sheet.now in
+    let s = a.sheet.now.bytes.now in
     subst (λ (l : Lemma). LemmaAt s l c.verb_at-closed.result) (sym (opened (goal.at.returns-then-closed c).Else-open)) (closed_found s a.linked.now a.stem.now _ c.verb_at-closed.ensures c.if-closed.true)
 
 pub returns-then-not-ends_in_aa : goal.returns-then-not-ends_in_aa
 returns-then-not-ends_in_aa c =
     let a = c.args in
-    let s = a.sheet.now in
+    let s = a.sheet.now.bytes.now in
     let e = without_vowel s a.linked.now a.stem.now (sym c.ends_in_aa.ensures ∙ c.if-not-ends_in_aa.true) in
     subst (λ (l : Lemma). LemmaAt s l c.verb_at.result) (sym (shut (goal.at.returns-then-not-ends_in_aa c).Else-closed ∙ e)) c.verb_at.ensures
 
 pub returns-then-vowel : goal.returns-then-vowel
 returns-then-vowel c =
     let a = c.args in
-    let s = a.sheet.now in
+    let s = a.sheet.now.bytes.now in
     let r = c.verb_at-vowel.result in
     subst (λ (l : Lemma). LemmaAt s l r) (sym (shut (goal.at.returns-then-vowel c).Else-closed ∙ vowels (goal.at.returns-then-vowel c).Else-not-ends_in_aa)) (verb-first s r _ (last s a.linked.now a.stem.now) c.verb_at-vowel.ensures c.if-vowel.true)
 
 pub returns : goal.returns
 returns c =
     let a = c.args in
-    let s = a.sheet.now in
+    let s = a.sheet.now.bytes.now in
     let e = verb_next s c.verb_at-vowel.result _ (last s a.linked.now a.stem.now) c.verb_at-vowel.ensures c.if-vowel.false in
     subst (λ (l : Lemma). LemmaAt s l c.verb_at-2.result) (sym (shut (goal.at.returns c).Else-closed ∙ vowels (goal.at.returns c).Else-not-ends_in_aa ∙ e)) c.verb_at-2.ensures

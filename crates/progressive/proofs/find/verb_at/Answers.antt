@@ -7,9 +7,9 @@ use Rattle.progressive.proofs.find.verb_at.Goals as goal
 pub returns-then-not-is_verb : goal.returns-then-not-is_verb
 returns-then-not-is_verb c =
     let a = c.args in
-    not-verb a.sheet.now (a.p.now ++ a.q.now) (sym c.is_verb.ensures ∙ c.if-not-is_verb.true)
+    not-verb a.sheet.now.bytes.now (a.p.now ++ a.q.now) (sym c.is_verb.ensures ∙ c.if-not-is_verb.true)
 
 pub returns : goal.returns
 returns c =
     let a = c.args in
-    verb-named a.sheet.now _ (a.p.now ++ a.q.now) (sym c.is_verb.ensures ∙ c.if-not-is_verb.false) c.spot_of.ensures
+    verb-named a.sheet.now.bytes.now _ (a.p.now ++ a.q.now) (sym c.is_verb.ensures ∙ c.if-not-is_verb.false) c.spot_of.ensures

@@ -2,29 +2,26 @@
 use Prim.Native.Nat.{◌≤◌}
 use lib.ListN.{length}
 use native.Mathlib.Omega.{arith}
-use mathlib.Core.Path.{sym}
-use lib.Seq.{length-take-le}
-use Rattle.lookup.proofs.Readied.{indexed}
+use mathlib.Core.Path.{refl, ap}
+use Rattle.std.proofs.lemmas.Result.{err_from_is_err_and}
+use Rattle.sheet.specs.Lines.{sheet_check}
+use Rattle.sheet.specs.Inputs.{by_sheet}
+use Rattle.lookup.proofs.Readied.{said-err, indexed}
 use Rattle.referred.proofs.Answered.{part_room, found-refused, found-given}
 use Rattle.referred.proofs.entry.codes_by.Goals as goal
 
-pub slice_bounds-codes_in-end : goal.slice_bounds-codes_in-end
-slice_bounds-codes_in-end c = (indexed _ _ _ c.prepare_sheet-ready.result c.prepare_sheet-ready.ensures c.in-Accepted.is).0
-
-pub slice_bounds-codes_in-end-in-Accepted : goal.slice_bounds-codes_in-end-in-Accepted
-slice_bounds-codes_in-end-in-Accepted c =
-    sym (length-take-le _ _ (indexed _ _ _ c.prepare_sheet-ready.result c.prepare_sheet-ready.ensures c.in-Accepted.is).0)
+pub returns-in_err-lines : goal.returns-in_err-lines
+returns-in_err-lines c =
+    let p = err_from_is_err_and c.from_residual.result c.from_residual.ensures.1 in
+    rw (p.1, p.2) (found-refused c.args.sheet.now _ refl _ (ap by_sheet (said-err (sheet_check c.args.sheet.now) _ _ c.in_err-lines.ensures.said)) c.args.out.now)
 
 pub codes_in-requires : goal.codes_in-requires
 codes_in-requires c =
-    let i = indexed _ _ _ c.prepare_sheet-ready.result c.prepare_sheet-ready.ensures c.in-Accepted.is in
-    let l : c.prepare_sheet-ready.result.lines ≤ length c.args.found.now = omega (arith, i.0, c.requires.1) in
-    (i.1, part_room _ _ c.args.found.now i.0 l)
+    let i = indexed _ _ _ c.in_ok-lines.lines c.in_ok-lines.ensures in
+    let l : c.in_ok-lines.lines ≤ length c.args.found.now = omega (arith, i.1, c.requires.1) in
+    part_room _ _ c.args.found.now i.1 l
 
-pub returns-in-Refused : goal.returns-in-Refused
-returns-in-Refused c =
-    found-refused _ _ c.prepare_sheet-ready.ensures.said _ c.in-Refused.is _
-
-pub returns-in-Accepted : goal.returns-in-Accepted
-returns-in-Accepted c =
-    found-given _ _ c.prepare_sheet-ready.ensures.said c.in-Accepted.is _ _ _ c.codes_in.ensures.0 c.codes_in.ensures.1
+pub returns : goal.returns
+returns c =
+    let i = indexed _ _ _ c.in_ok-lines.lines c.in_ok-lines.ensures in
+    found-given c.args.sheet.now _ refl (ap by_sheet i.0) _ _ _ c.codes_in.ensures.0 c.codes_in.ensures.1

@@ -9,15 +9,13 @@ use Rattle.referred.proofs.faults.code_at.Goals as goal
 
 pub line_fault-requires : goal.line_fault-requires
 line_fault-requires c =
-    let p = c.requires in
-    (p.0, p.1, rw c.wide-at.ensures (indexed-form _ _ _ p.0 p.2))
+    rw c.from-at.ensures (indexed-form _ _ _ c.args.sheet.now.indexed c.requires)
 
 pub code_of-requires : goal.code_of-requires
 code_of-requires c =
-    let p = c.requires in
-    rw c.wide-at.ensures (start_small _ _ _ p.0 p.2)
+    rw c.from-at.ensures (start_small _ _ _ c.args.sheet.now.indexed c.requires)
 
 pub returns : goal.returns
 returns c =
     let a = c.args in
-    c.code_of.ensures ∙ ap (code_for c.wide-at.result) c.line_fault.ensures ∙ ap (λ (x : ℕ). code_for x (fault_at a.sheet.now x)) c.wide-at.ensures
+    c.code_of.ensures ∙ ap (code_for c.from-at.result) c.line_fault.ensures ∙ ap (λ (x : ℕ). code_for x (fault_at a.sheet.now.bytes.now x)) c.from-at.ensures

@@ -1,11 +1,6 @@
 -- `faults::find_in` meets its contract: the codes kept so far and those of the lines to come are all of them. Assumes nothing.
-use Prim.Native.Nat.{◌-◌}
-use lib.ListN.{length}
 use Rattle.referred.proofs.Kept.{Kept}
 use Rattle.referred.proofs.faults.find_in.Given as goal
 
 abbrev pub invariant-loop-i : goal.invariant-loop-i
-invariant-loop-i l = Kept l.sheet l.starts l.initial.out l.out l.n l.i
-
-abbrev pub decreases-loop-i : goal.decreases-loop-i
-decreases-loop-i l = length l.starts - l.i
+invariant-loop-i l = Kept l.sheet.bytes.now l.sheet.starts.now l.initial.out l.out l.n l.i

@@ -7,26 +7,20 @@ use Rattle.referred.proofs.Found.{text-found, text_next, text-none}
 use Rattle.referred.proofs.faults.names_any.Goals as goal
 
 pub loop-k-init : goal.loop-k-init
-loop-k-init c = (omega arith, refl)
+loop-k-init c = refl
 
 pub names_text-requires : goal.names_text-requires
-names_text-requires c = (c.requires.0, c.requires.1, c.loop-k-test.true)
+names_text-requires c = (c.requires, c.loop-k-test.true)
 
 pub returns-then-names_text : goal.returns-then-names_text
 returns-then-names_text c =
     let l = c.loop-k in
-    sym (l.invariant.1 ∙ text-found _ affixes l.k (omega (arith, affix_count, c.loop-k-test.true)) (sym c.names_text.ensures ∙ c.if-names_text.true))
-
-pub overflow_add-k : goal.overflow_add-k
-overflow_add-k c = omega arith
-
-pub loop-k-smaller : goal.loop-k-smaller
-loop-k-smaller c = omega arith
+    sym (l.invariant ∙ text-found _ affixes l.k (omega (arith, affix_count, c.loop-k-test.true)) (sym c.names_text.ensures ∙ c.if-names_text.true))
 
 pub loop-k-preserved : goal.loop-k-preserved
 loop-k-preserved c =
     let l = c.loop-k in
-    (omega arith, l.invariant.1 ∙ text_next _ affixes l.k (omega (arith, affix_count, c.loop-k-test.true)) (sym c.names_text.ensures ∙ c.if-names_text.false))
+    l.invariant ∙ text_next _ affixes l.k (omega (arith, affix_count, c.loop-k-test.true)) (sym c.names_text.ensures ∙ c.if-names_text.false)
 
 pub returns : goal.returns
-returns c = let l = c.loop-k in sym (l.invariant.1 ∙ text-none _ affixes l.k (omega (arith, affix_count, c.loop-k-test.false)))
+returns c = let l = c.loop-k in sym (l.invariant ∙ text-none _ affixes l.k (omega (arith, affix_count, c.loop-k-test.false)))

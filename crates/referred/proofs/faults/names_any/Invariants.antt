@@ -1,5 +1,4 @@
 -- `faults::names_any` meets its contract: no text so far is named, so that one of those to come decides. Assumes nothing.
-use Prim.Native.Nat.{◌-◌, ◌≤◌}
 use mathlib.Core.Path.{◌≡◌}
 use lib.ListN.{drop}
 use Rattle.sheet.specs.Forms.{key}
@@ -9,7 +8,4 @@ use Rattle.referred.specs.Report.{is_text}
 use Rattle.referred.proofs.faults.names_any.Given as goal
 
 abbrev pub invariant-loop-k : goal.invariant-loop-k
-invariant-loop-k l = (l.k ≤ 25) × (is_text (key (line_at l.sheet l.at)) affixes ≡ is_text (key (line_at l.sheet l.at)) (drop l.k affixes))
-
-abbrev pub decreases-loop-k : goal.decreases-loop-k
-decreases-loop-k l = 25 - l.k
+invariant-loop-k l = is_text (key (line_at l.sheet l.at)) affixes ≡ is_text (key (line_at l.sheet l.at)) (drop l.k affixes)

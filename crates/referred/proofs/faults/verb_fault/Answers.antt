@@ -11,10 +11,10 @@ use Rattle.referred.proofs.faults.verb_fault.Goals.{After-value_of-v}
 -- what is said of the value found
 value : (c : After-value_of-v) →
     let a = c.args in
-    ValueOf a.sheet.now 0x77 a.infinitive.now c.value_of-v.result
+    ValueOf a.sheet.now.bytes.now 0x77 a.infinitive.now c.value_of-v.result
 value c =
     let a = c.args in
-    one-part a.sheet.now 0x77 a.infinitive.now _ c.value_of-v.ensures
+    one-part a.sheet.now.bytes.now 0x77 a.infinitive.now _ c.value_of-v.ensures
 
 pub returns-then-not-v : goal.returns-then-not-v
 returns-then-not-v c =

@@ -5,7 +5,7 @@ use Rattle.rescued.proofs.Parting.{Part-way}
 use Rattle.rescued.proofs.part.report_part.Given as goal
 
 abbrev pub invariant-loop-walk : goal.invariant-loop-walk
-invariant-loop-walk l = Part-way l.sheet l.initial.out l.out l.initial.walk l.walk l.n
+invariant-loop-walk l = Part-way l.sheet l.initial.walk l.walk l.initial.w l.w
 
 abbrev pub decreases-loop-walk : goal.decreases-loop-walk
 decreases-loop-walk l = length l.sheet - l.walk.at

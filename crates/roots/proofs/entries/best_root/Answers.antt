@@ -1,10 +1,15 @@
 -- `entries::best_root` meets its contract. Assumes nothing.
-use mathlib.Core.Path.{sym, ◌∙◌}
-use Rattle.roots.proofs.Firsts.{none_best, some_best}
+use Rattle.std.proofs.lemmas.Result.{err_from_is_err_and}
+use mathlib.Core.Path.{sym, ap, ◌∙◌}
+use Rattle.std.specs.Prelude.{Ok}
+use Rattle.roots.proofs.Firsts.{best_for, best_given}
 use Rattle.roots.proofs.entries.best_root.Goals as goal
 
-pub returns-then-not-is_some : goal.returns-then-not-is_some
-returns-then-not-is_some c = let a = c.args in none_best a.word.now a.sheet.now c.lookup_root_candidates-answer.result c.lookup_root_candidates-answer.ensures c.no_candidate.result (sym (c.if-not-is_some.true) ∙ c.is_some.ensures) c.no_candidate.ensures
+pub returns-in_err-roots : goal.returns-in_err-roots
+returns-in_err-roots c =
+    let p = err_from_is_err_and c.from_residual.result c.from_residual.ensures.1 in
+    rw (p.1, p.2) (ap best_for (sym c.in_err-roots.was) ∙ best_given c.args.word.now c.args.sheet.now _ c.lookup_root_candidates.ensures)
 
 pub returns : goal.returns
-returns c = let a = c.args in some_best a.word.now a.sheet.now c.lookup_root_candidates-answer.result c.lookup_root_candidates-answer.ensures c.first.result _ c.first.ensures
+returns c =
+    ap Ok c.first.ensures ∙ ap best_for (sym c.in_ok-roots.was) ∙ best_given c.args.word.now c.args.sheet.now _ c.lookup_root_candidates.ensures

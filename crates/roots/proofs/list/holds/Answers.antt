@@ -1,9 +1,10 @@
 -- `list::holds` meets its contract: no row passed has the same root and labels. Assumes nothing.
 use Prim.Native.Nat.{◌+◌}
 use native.Mathlib.Omega.{arith}
+use Rattle.std.proofs.Common.{rules}
 use mathlib.Core.Path.{◌≡◌, sym, ap, ◌∙◌}
 use mathlib.Core.List.{◌∷◌}
-use lib.ListN.{take, drop, get_or}
+use lib.ListN.{length, take, drop, get_or}
 use Rattle.ranking.proofs.Puts.{scan_next, scan-end}
 use Rattle.roots.specs.Rank.{is_equal, key_order}
 use Rattle.roots.specs.Lists.{holds_in, no_candidate}
@@ -17,6 +18,7 @@ next : (c : After-is_equal) →
     drop c.loop-i.i (take a.list.count a.list.rows) ≡ get_or a.list.rows c.loop-i.i no_candidate ∷ drop (c.loop-i.i + 1) (take a.list.count a.list.rows)
 next c =
     let a = c.args in
+    let n : length a.list.rows ≡ 16 = search rules in
     scan_next a.list.rows a.list.count no_candidate (omega arith) c.loop-i.i c.loop-i-test.true
 
 same : (c : After-is_equal) →
@@ -25,10 +27,10 @@ same : (c : After-is_equal) →
 same c = c.is_equal.ensures ∙ ap is_equal c.key_order.ensures
 
 pub returns-then-is_equal : goal.returns-then-is_equal
-returns-then-is_equal c = sym (c.loop-i.invariant.3 ∙ ap (holds_in c.args.word.now c.args.p) (next (goal.at.returns-then-is_equal c).After-is_equal) ∙ holds_here _ _ _ _ (sym (same (goal.at.returns-then-is_equal c).After-is_equal) ∙ c.if-is_equal.true))
+returns-then-is_equal c = sym (c.loop-i.invariant ∙ ap (holds_in c.args.word.now c.args.p) (next (goal.at.returns-then-is_equal c).After-is_equal) ∙ holds_here _ _ _ _ (sym (same (goal.at.returns-then-is_equal c).After-is_equal) ∙ c.if-is_equal.true))
 
 pub loop-i-preserved : goal.loop-i-preserved
-loop-i-preserved c = (omega arith, c.loop-i.invariant.1, c.loop-i.invariant.2, c.loop-i.invariant.3 ∙ ap (holds_in c.args.word.now c.args.p) (next (goal.at.loop-i-preserved c).After-is_equal) ∙ holds_next _ _ _ _ (sym (same (goal.at.loop-i-preserved c).After-is_equal) ∙ c.if-is_equal.false))
+loop-i-preserved c = c.loop-i.invariant ∙ ap (holds_in c.args.word.now c.args.p) (next (goal.at.loop-i-preserved c).After-is_equal) ∙ holds_next _ _ _ _ (sym (same (goal.at.loop-i-preserved c).After-is_equal) ∙ c.if-is_equal.false)
 
 pub returns : goal.returns
-returns c = let a = c.args in sym (c.loop-i.invariant.3 ∙ ap (holds_in a.word.now a.p) (scan-end a.list.rows a.list.count no_candidate (omega arith) c.loop-i.i c.loop-i-test.false) ∙ holds_none a.word.now a.p)
+returns c = let a = c.args in sym (c.loop-i.invariant ∙ ap (holds_in a.word.now a.p) (scan-end a.list.rows a.list.count no_candidate (omega arith) c.loop-i.i c.loop-i-test.false) ∙ holds_none a.word.now a.p)

@@ -22,7 +22,7 @@ pub returns-then-ahead : goal.returns-then-ahead
 returns-then-ahead c = let z = ap (place_in c.args.word.now c.args.r) (next (goal.at.returns-then-ahead c).After-ahead) ∙ place_here _ _ _ _ (sym c.ahead.ensures ∙ c.if-ahead.true) in (omega arith, omega arith)
 
 pub loop-i-preserved : goal.loop-i-preserved
-loop-i-preserved c = let z = ap (place_in c.args.word.now c.args.r) (next (goal.at.loop-i-preserved c).After-ahead) ∙ place_next _ _ _ _ (sym c.ahead.ensures ∙ c.if-ahead.false) in (omega arith, c.loop-i.invariant.1, c.loop-i.invariant.2, omega arith)
+loop-i-preserved c = let z = ap (place_in c.args.word.now c.args.r) (next (goal.at.loop-i-preserved c).After-ahead) ∙ place_next _ _ _ _ (sym c.ahead.ensures ∙ c.if-ahead.false) in omega arith
 
 pub returns : goal.returns
 returns c = let a = c.args in let z = ap (place_in a.word.now a.r) (scan-end a.list.rows a.list.count no_candidate (omega arith) c.loop-i.i c.loop-i-test.false) ∙ place_none a.word.now a.r in (omega arith, omega arith)

@@ -3,11 +3,12 @@ use mathlib.Core.Path.{◌≡◌}
 use mathlib.Core.List.{map}
 use Prim.Native.Nat.{◌-◌, ◌≤◌}
 use lib.ListN.{length, drop}
-use Rattle.roots.specs.Rank.{cmp_texts, label_at}
+use Rattle.tables.specs.Rows.{suffixes}
+use Rattle.roots.specs.Rank.{cmp_texts, text_of}
 use Rattle.roots.proofs.order.compare_labels.Given as goal
 
 abbrev pub invariant-loop-i : goal.invariant-loop-i
-invariant-loop-i l = (l.i ≤ length l.a) × (l.i ≤ length l.b) × (cmp_texts (map (label_at l.texts l.cuts) l.a) (map (label_at l.texts l.cuts) l.b) ≡ cmp_texts (map (label_at l.texts l.cuts) (drop l.i l.a)) (map (label_at l.texts l.cuts) (drop l.i l.b)))
+invariant-loop-i l = (l.i ≤ length l.a) × (l.i ≤ length l.b) × (cmp_texts (map (text_of suffixes) l.a) (map (text_of suffixes) l.b) ≡ cmp_texts (map (text_of suffixes) (drop l.i l.a)) (map (text_of suffixes) (drop l.i l.b)))
 
 abbrev pub decreases-loop-i : goal.decreases-loop-i
 decreases-loop-i l = length l.a - l.i

@@ -1,7 +1,7 @@
 -- `order::rank` meets its contract, key by key. Assumes nothing.
 use mathlib.Core.Path.{◌≡◌, sym, ap, ◌∙◌}
 use Prim.Native.Nat.{ℕ}
-use Rattle.runs.specs.declared.Order.{Order}
+use Rattle.std.specs.declared.cmp.Ordering.{Ordering}
 use Rattle.text.specs.Characters.{chars}
 use Rattle.decomposition.specs.Parts.{root_text}
 use Rattle.roots.specs.Rank.{then_by, descending, having, rank_of}
@@ -10,17 +10,17 @@ use Rattle.roots.proofs.order.rank.Goals as goal
 use Rattle.roots.proofs.order.rank.Goals.{After-larger_first-length, Else-not-is_equal, Else-not-is_equal-2, Else-not-is_equal-3}
 
 -- a key that stands alike leaves it to the next ones
-by_score : (c : Else-not-is_equal) {y rest : Order} → y ≡ rest →
+by_score : (c : Else-not-is_equal) {y rest : Ordering} → y ≡ rest →
     let a = c.args in
     y ≡ then_by (descending a.a.score a.b.score) rest
 by_score c e = passes _ _ _ _ c.larger_first-score.ensures (sym c.is_equal.ensures ∙ c.if-not-is_equal.false) e
 
-by_head : (c : Else-not-is_equal-2) {y rest : Order} → y ≡ rest →
+by_head : (c : Else-not-is_equal-2) {y rest : Ordering} → y ≡ rest →
     let a = c.args in
     y ≡ then_by (having a.a.known_headword a.b.known_headword) rest
 by_head c e = passes _ _ _ _ c.having_first-head.ensures (sym c.is_equal-2.ensures ∙ c.if-not-is_equal-2.false) e
 
-by_word : (c : Else-not-is_equal-3) {y rest : Order} → y ≡ rest →
+by_word : (c : Else-not-is_equal-3) {y rest : Ordering} → y ≡ rest →
     let a = c.args in
     y ≡ then_by (having a.a.known_word a.b.known_word) rest
 by_word c e = passes _ _ _ _ c.having_first-known.ensures (sym c.is_equal-3.ensures ∙ c.if-not-is_equal-3.false) e

@@ -6,7 +6,7 @@ use native.Mathlib.Omega.{arith}
 use lib.ListN.{length, take, drop, length-drop}
 use lib.Seq.{take_all}
 use Rattle.runs.specs.Runs.{cmp}
-use Rattle.runs.specs.declared.Order.TheVariants.{Equal}
+use Rattle.std.specs.declared.cmp.Ordering.TheVariants.{Equal}
 use Rattle.sheet.specs.Keys.{spaced, headed}
 use Rattle.sheet.proofs.Forms.{line-fits}
 use Rattle.sheet.proofs.Spaced.{line_same, head_line_equal}

@@ -2,34 +2,25 @@
 use mathlib.Core.Path.{sym, ◌∙◌}
 use native.Mathlib.Omega.{arith}
 use Rattle.strips.specs.Suffix.{rests_of}
-use Rattle.strips.proofs.Returns.{sheds-short, sheds_other, sheds_true, long_false, long_true}
+use Rattle.strips.proofs.Returns.{long_false, long_true}
+use Rattle.strips.proofs.Remainders.{sheds_longer}
 use Rattle.strips.proofs.suffix.suffix_rests.Goals as goal
 
-pub returns-then-n-m : goal.returns-then-n-m
+pub returns-then-not-sheds : goal.returns-then-not-sheds
 unfolding rests_of
-returns-then-n-m c =
-    let a = c.args in
-    rw (sheds-short a.piece.now a.suffix.now c.if-n-m.true)
+returns-then-not-sheds c = rw (sym c.sheds.ensures ∙ c.if-not-sheds.true)
 
-pub returns-then-not-ends_with : goal.returns-then-not-ends_with
-unfolding rests_of
-returns-then-not-ends_with c =
-    let a = c.args in
-    rw (sheds_other a.piece.now a.suffix.now (sym c.ends_with.ensures ∙ c.if-not-ends_with.true))
+pub overflow_sub-plain : goal.overflow_sub-plain
+overflow_sub-plain c = omega (arith, sheds_longer c.args.piece.now c.args.suffix.now (sym c.sheds.ensures ∙ c.if-not-sheds.false))
 
 pub returns-then-count-le1 : goal.returns-then-count-le1
 unfolding rests_of
 returns-then-count-le1 c =
-    let a = c.args in
-    let e = sym c.ends_with.ensures ∙ c.if-not-ends_with.false in
     let n = c.count.ensures in
-    rw (sheds_true a.piece.now a.suffix.now c.if-n-m.false e, long_false a.suffix.now (omega arith))
+    rw (sym c.sheds.ensures ∙ c.if-not-sheds.false, long_false c.args.suffix.now (omega arith))
 
 pub returns : goal.returns
 unfolding rests_of
 returns c =
-    let a = c.args in
-    let e = sym c.ends_with.ensures ∙ c.if-not-ends_with.false in
     let n = c.count.ensures in
-    rw
-    (sheds_true a.piece.now a.suffix.now c.if-n-m.false e, long_true a.suffix.now (omega arith), c.first_char_len.ensures.0)
+    rw (sym c.sheds.ensures ∙ c.if-not-sheds.false, long_true c.args.suffix.now (omega arith), c.first_char_len.ensures.0)

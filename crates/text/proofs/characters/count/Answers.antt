@@ -1,26 +1,17 @@
--- `text::characters::count` meets its contract: the characters of the bytes passed, and of those to come, are all. Assumes nothing.
-use native.Mathlib.Omega.{arith}
-use Rattle.text.proofs.Scan.{chars_next, chars-end}
+-- `text::characters::count` meets its contract: the sum over all bytes is the number of characters. Assumes nothing.
+use Rattle.std.proofs.Common.{sym, ◌∙◌, arith, rules, tests}
+use Rattle.std.proofs.lemmas.Iterator.{YieldsList-from_slice, YieldsList-from_map}
+use Rattle.std.proofs.lemmas.Iterator.Consumers.{sum_by_from_yields_List, fits_by_from_yields_list}
+use Rattle.text.specs.Characters.{opens}
+use Rattle.text.proofs.Scan.{chars_sum, chars_most}
 use Rattle.text.proofs.characters.count.Goals as goal
 
-pub loop-i-init : goal.loop-i-init
-loop-i-init c = (omega arith, omega arith, omega arith)
-
-pub bounds-s-i : goal.bounds-s-i
-bounds-s-i c = omega arith
-
-pub overflow_add-n : goal.overflow_add-n
-overflow_add-n c = omega arith
-
-pub overflow_add-i : goal.overflow_add-i
-overflow_add-i c = omega arith
-
-pub loop-i-smaller : goal.loop-i-smaller
-loop-i-smaller c = omega arith
-
-pub loop-i-preserved : goal.loop-i-preserved
-loop-i-preserved c =
-    (omega arith, omega arith, omega (arith, chars_next c.args.s.now c.loop-i.i c.loop-i-test.true))
+pub sum-requires-clause-fits : goal.sum-requires-clause-fits
+sum-requires-clause-fits c =
+    let s = c.args.s.now in
+    fits_by_from_yields_list opens s c.map.result _ (YieldsList-from_map _ opens (YieldsList-from_slice s cc) c.map.ensures.closure (λ x r q k. search (rules, tests))) (omega (arith, chars_sum s, chars_most s))
 
 pub returns : goal.returns
-returns c = omega (arith, chars-end c.args.s.now c.loop-i.i (omega arith))
+returns c =
+    let s = c.args.s.now in
+    sum_by_from_yields_List opens s c.map.result _ c.sum.ensures.ran (YieldsList-from_map _ opens (YieldsList-from_slice s cc) c.map.ensures.closure (λ x r q k. search (rules, tests))) ∙ sym (chars_sum s)

@@ -1,0 +1,22 @@
+-- `offers::Asked::with_front` meets its contract. Assumes nothing.
+use mathlib.Core.Path.{◌≡◌, ap, ◌∙◌}
+use mathlib.Core.List.{List}
+use Rattle.lookup.specs.Lexicons.{replies}
+use Rattle.roots.specs.Lists.{rows_of}
+use Rattle.roots.specs.Candidates.{bare, one_suffix}
+use Rattle.roots.specs.Room.{held_of, held_all}
+use Rattle.roots.specs.declared.RootCandidate.{RootCandidate}
+use Rattle.roots.proofs.Offered.{bare_is, held_first}
+use Rattle.roots.proofs.offers.Asked.with_front.Goals as goal
+
+pub returns : goal.returns
+returns c =
+    let a = c.args in
+    let ask = replies a.self.now.sheet.now in
+    let o : rows_of c.offer-l.result ≡ held_of 16 ask a.self.now.word.now (rows_of a.list) (bare a.self.now.word.now a.front) =
+    c.offer-l.ensures.0 ∙ ap (held_of 16 ask a.self.now.word.now (rows_of a.list)) (bare_is a.self.now.word.now a.front c.requires.1) in (
+      c.with_suffix.ensures.0
+          ∙ ap (λ (l : List RootCandidate). held_all 16 ask a.self.now.word.now l (one_suffix ask a.self.now.word.now a.front)) o
+          ∙ held_first 16 ask a.self.now.word.now (rows_of a.list) (bare a.self.now.word.now a.front) (one_suffix ask a.self.now.word.now a.front),
+      c.with_suffix.ensures.1,
+    )

@@ -1,8 +1,0 @@
--- `tables::origin_starts` meets its contract: the constant is the table's rows, byte by byte. Assumes nothing.
-use mathlib.Core.Path.{refl}
-use Rattle.tables.specs.Rows.{origin_words}
-use Rattle.tables.proofs.origin_starts.Goals as goal
-
-pub returns : goal.returns
-unfolding origin_words
-returns c = refl
