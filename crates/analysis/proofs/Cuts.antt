@@ -1,6 +1,6 @@
 -- Pieces of the word by their places, and the record of a root by its places. The proofs of the walk cite these. Assumes nothing.
 use Rattle.std.specs.Prelude.{None, Option, Some}
-use Prim.Native.Nat.{ℕ, zero, suc, ◌+◌, ◌-◌, ◌<◌, ◌≤◌}
+use Prim.Native.Nat.{ℕ, zero, suc, ◌+◌, ◌-◌, ◌≤◌}
 use native.Mathlib.Omega.{arith}
 use native.Mathlib.Nat.{sub-zero, zero-sub, suc-sub-suc}
 use mathlib.Core.Path.{◌≡◌, sym, ap, ap₂, ◌∙◌}
@@ -10,9 +10,6 @@ use lib.Seq.{length-take-le, drop-drop, take-nil}
 use Rattle.runs.specs.Runs.{pick}
 use Rattle.strips.specs.Prefix.{prefix_remainder, rest_of, behind}
 use Rattle.strips.proofs.Remainders.{rest-says}
-use Rattle.tables.specs.Rows.{prefix_forms}
-use Rattle.tables.specs.Tables.{Laid, row_at}
-use Rattle.tables.proofs.Laid.{laid-row}
 use Rattle.paths.specs.Chains.{form_of}
 use Rattle.sheet.specs.Replies.{Ask}
 use Rattle.paths.specs.declared.Chain.{Chain}
@@ -66,6 +63,5 @@ module _ (w : List ℕ) (e : ℕ) where
   whole-front = rw (sub-zero e)
 
 -- what a prefix row leaves of a piece, asked by its form as the table has it
-pub asked : {bytes starts : List ℕ} → Laid prefix_forms bytes starts → (k : ℕ) → k < length prefix_forms → (piece found : List ℕ) (r : Option ℕ)
-    → r ≡ rest_of piece found → found ≡ row_at bytes starts k → r ≡ rest_of piece (form_of k)
-asked laid k h piece found r e f = e ∙ ap (rest_of piece) (f ∙ laid-row laid k h)
+pub asked : (k : ℕ) (piece found : List ℕ) (r : Option ℕ) → r ≡ rest_of piece found → found ≡ form_of k → r ≡ rest_of piece (form_of k)
+asked k piece found r e f = e ∙ ap (rest_of piece) f

@@ -1,7 +1,5 @@
 -- The readings that the code finds, said of places in the word. Assumes nothing.
-use Rattle.std.specs.Prelude.{ℕ, ◌-◌, ◌≤◌, List, [], ◌∷◌, length, take, drop}
-use Rattle.tables.specs.Rows.{prefix_forms}
-use Rattle.tables.specs.Tables.{Laid, affixes}
+use Rattle.std.specs.Prelude.{ℕ, ◌-◌, List, [], ◌∷◌, take, drop}
 use Rattle.runs.specs.Runs.{pick}
 use Rattle.sheet.specs.Replies.{Ask}
 use Rattle.ranking.specs.declared.Reading.{Reading}
@@ -18,9 +16,3 @@ between w b e = take (e - b) (drop b w)
 abbrev pub root_found : Ask → ℕ → Chain → List ℕ → ℕ → ℕ → Prefixes → List Reading
 root_found ask surface c w e b prefixes =
     pick (is_supported ask (between w b e)) (built ask surface e b (between w b e) prefixes c ∷ []) []
-
--- what every step of the walk is lent: a word of at most 192 bytes, and the two tables
-pub record Lent (word texts cuts forms form_cuts : List ℕ) : Type 0 where
-  pub texts_laid : Laid affixes texts cuts
-  pub forms-laid : Laid prefix_forms forms form_cuts
-  pub short : length word ≤ 192

@@ -76,10 +76,6 @@ pub fn keep_readings(word: &[u8], sheet: &Lexicon<'_>, out: &mut [u8]) -> Tally
     requires { (word_check word.now ≡ Ok tt) × (kept_bytes ≤ length out.old) }
     ensures { (kept_of out.new result.kept ≡ collected word.now sheet.now.bytes.now) × (result.kept ≤ list_limit + 1) × (result.visits ≡ visits_of (replies sheet.now) word.now) }
 {
-    let texts = tables::affixes();
-    let cuts = tables::affix_starts();
-    let forms = tables::prefix_forms();
-    let form_cuts = tables::prefix_form_starts();
     let surface = text::characters::count(word) as u16;
     let s = blank();
     let chain = Chain {
@@ -89,10 +85,6 @@ pub fn keep_readings(word: &[u8], sheet: &Lexicon<'_>, out: &mut [u8]) -> Tally
     let walked = visit(
         word,
         sheet,
-        &texts,
-        &cuts,
-        &forms,
-        &form_cuts,
         Piece {
             end: word.len(),
             chain,

@@ -24,11 +24,9 @@ pub(crate) fn classify_rows(word: &[u8], sheet: &Lexicon<'_>, n: usize, out: &[u
     ensures { (rows_of result ≡ map (classified (replies sheet.now) word.now) (take n (rows_in out.now))) × (result.count ≡ n) }
 {
     let mut list = nothing();
-    let mut i: usize = 0;
-    while i < n {
+    for i in 0..n {
         let r = row_at(out, i);
         list.rows[i] = classify_root(word, sheet, r);
-        i += 1;
     }
     list.count = n;
     list

@@ -2,7 +2,6 @@
 ghost use Rattle.std.specs.Prelude.{◌≡◌, [], ◌∷◌, ◌+◌, ◌-◌, ◌≤◌, ◌<◌, length, take, drop};
 ghost use Rattle.runs.specs.Runs.{begins_with};
 ghost use Rattle.tables.specs.Rows.{prefix_forms};
-ghost use Rattle.tables.specs.Tables.{Laid, affixes};
 ghost use Rattle.lookup.specs.Lexicons.{replies};
 ghost use Rattle.progressive.specs.Progressive.{is_progressive};
 ghost use Rattle.ranking.specs.Lists.{list_limit, plus_all};
@@ -11,7 +10,7 @@ ghost use Rattle.paths.specs.Walk.{root_walk, on_left, over_forms, second_walk, 
 ghost use Rattle.paths.specs.Chains.{all_forms, most_strips, form_of};
 ghost use Rattle.paths.specs.Visits.{total, prefix_visits};
 ghost use Rattle.strips.specs.Prefix.{prefix_remainder};
-ghost use Rattle.analysis.specs.Places.{between, Lent};
+ghost use Rattle.analysis.specs.Places.{between};
 
 use crate::fronts::may_begin;
 use crate::roots::with_root;
@@ -20,16 +19,15 @@ use paths::{FORMS, Piece, Prefixes, Tally};
 use progressive::find::has_supported_progressive_form;
 use runs::begins_with;
 use strips::prefix::prefix_rest;
-use tables::row;
+use tables::prefix_form;
 
 // Whether the word's part from byte `from` up to byte `stem` begins with the form of row k. Most parts do not, and then nothing
 // more is asked.
-fn begins(word: &[u8], forms: &[u8], form_cuts: &[u16], from: usize, stem: usize, k: u8) -> bool
-    requires { Laid prefix_forms forms.now form_cuts.now × (from ≤ stem) × (stem ≤ length word.now) × (k < all_forms) }
+fn begins(word: &[u8], from: usize, stem: usize, k: u8) -> bool
+    requires { (from ≤ stem) × (stem ≤ length word.now) × (k < all_forms) }
     ensures { result ≡ begins_with (form_of k) (between word.now from stem) }
 {
-    let i = k as usize;
-    begins_with(&word[from..stem], row(forms, form_cuts, i))
+    begins_with(&word[from..stem], prefix_form(usize::from(k)))
 }
 
 // One row for the second prefix: the piece begins at byte `from` of the word, behind the first prefix. Each function of this walk counts
@@ -37,10 +35,6 @@ fn begins(word: &[u8], forms: &[u8], form_cuts: &[u16], from: usize, stem: usize
 fn second_row(
     word: &[u8],
     sheet: &Lexicon<'_>,
-    texts: &[u8],
-    cuts: &[u16],
-    forms: &[u8],
-    form_cuts: &[u16],
     at: Piece,
     from: usize,
     first: u8,
@@ -49,7 +43,7 @@ fn second_row(
     n: usize,
     out: &mut [u8],
 ) -> Tally
-    requires { Lent word.now texts.now cuts.now forms.now form_cuts.now
+    requires { (length word.now ≤ 192)
         × (from ≤ at.end) × (at.end ≤ length word.now) × (second < all_forms) × (surface ≤ 192) × (at.chain.count ≤ most_strips) × HasRoom out.old n }
     ensures { (kept_of out.new result.kept ≡ plus_all word.now (kept_of out.old n)
         (on_left (root_walk (replies sheet.now) surface at.chain (take at.end word.now) (first ∷ second ∷ []))
@@ -57,9 +51,7 @@ fn second_row(
         × (result.visits ≡ total (prefix_visits 0 (replies sheet.now)) (prefix_remainder (between word.now from at.end) (form_of second))) }
 {
     let stem = at.end;
-    let k = second as usize;
-    let form = row(forms, form_cuts, k);
-    let rest = prefix_rest(&word[from..stem], form);
+    let rest = prefix_rest(&word[from..stem], prefix_form(usize::from(second)));
     match rest {
         None => Tally { kept: n, visits: 0 },
         Some(cut) => {
@@ -68,8 +60,6 @@ fn second_row(
             let kept = with_root(
                 word,
                 sheet,
-                texts,
-                cuts,
                 at,
                 root,
                 Prefixes {
@@ -90,10 +80,6 @@ fn second_row(
 fn second_rows(
     word: &[u8],
     sheet: &Lexicon<'_>,
-    texts: &[u8],
-    cuts: &[u16],
-    forms: &[u8],
-    form_cuts: &[u16],
     at: Piece,
     from: usize,
     first: u8,
@@ -101,7 +87,7 @@ fn second_rows(
     n: usize,
     out: &mut [u8],
 ) -> Tally
-    requires { Lent word.now texts.now cuts.now forms.now form_cuts.now
+    requires { (length word.now ≤ 192)
         × (from ≤ at.end) × (at.end ≤ length word.now) × (surface ≤ 192) × (at.chain.count ≤ most_strips) × HasRoom out.old n }
     ensures { (kept_of out.new result.kept ≡ plus_all word.now (kept_of out.old n)
         (over_forms (λ second left. root_walk (replies sheet.now) surface at.chain (take at.end word.now) (first ∷ second ∷ []) left)
@@ -111,18 +97,13 @@ fn second_rows(
     let stem = at.end;
     let mut f = n;
     let mut v: usize = 0;
-    let mut k: u8 = 0;
-    while k < FORMS {
-        let second = k;
-        k += 1;
-        if begins(word, forms, form_cuts, from, stem, second) {
-            let r = second_row(
-                word, sheet, texts, cuts, forms, form_cuts, at, from, first, second, surface, f,
-                out,
-            );
-            f = r.kept;
-            v += r.visits;
+    for k in 0..FORMS {
+        if !begins(word, from, stem, k) {
+            continue;
         }
+        let r = second_row(word, sheet, at, from, first, k, surface, f, out);
+        f = r.kept;
+        v += r.visits;
     }
     Tally { kept: f, visits: v }
 }
@@ -131,17 +112,13 @@ fn second_rows(
 fn first_row(
     word: &[u8],
     sheet: &Lexicon<'_>,
-    texts: &[u8],
-    cuts: &[u16],
-    forms: &[u8],
-    form_cuts: &[u16],
     at: Piece,
     first: u8,
     surface: u16,
     n: usize,
     out: &mut [u8],
 ) -> Tally
-    requires { Lent word.now texts.now cuts.now forms.now form_cuts.now
+    requires { (length word.now ≤ 192)
         × (at.end ≤ length word.now) × (first < all_forms) × (surface ≤ 192) × (at.chain.count ≤ most_strips) × HasRoom out.old n }
     ensures { (kept_of out.new result.kept ≡ plus_all word.now (kept_of out.old n)
         (on_left (second_walk (replies sheet.now) surface at.chain (take at.end word.now) first)
@@ -149,9 +126,7 @@ fn first_row(
         × (result.visits ≡ total (prefix_visits 1 (replies sheet.now)) (prefix_remainder (take at.end word.now) (form_of first))) }
 {
     let stem = at.end;
-    let k = first as usize;
-    let form = row(forms, form_cuts, k);
-    let rest = prefix_rest(&word[..stem], form);
+    let rest = prefix_rest(&word[..stem], prefix_form(usize::from(first)));
     match rest {
         None => Tally { kept: n, visits: 0 },
         Some(root) => {
@@ -159,8 +134,6 @@ fn first_row(
             let f = with_root(
                 word,
                 sheet,
-                texts,
-                cuts,
                 at,
                 root,
                 Prefixes {
@@ -178,9 +151,7 @@ fn first_row(
             if !may_begin(&word[root..stem]) {
                 return Tally { kept: f, visits: 1 };
             }
-            let more = second_rows(
-                word, sheet, texts, cuts, forms, form_cuts, at, root, first, surface, f, out,
-            );
+            let more = second_rows(word, sheet, at, root, first, surface, f, out);
             Tally {
                 kept: more.kept,
                 visits: 1 + more.visits,
@@ -193,16 +164,12 @@ fn first_row(
 fn first_rows(
     word: &[u8],
     sheet: &Lexicon<'_>,
-    texts: &[u8],
-    cuts: &[u16],
-    forms: &[u8],
-    form_cuts: &[u16],
     at: Piece,
     surface: u16,
     n: usize,
     out: &mut [u8],
 ) -> Tally
-    requires { Lent word.now texts.now cuts.now forms.now form_cuts.now
+    requires { (length word.now ≤ 192)
         × (at.end ≤ length word.now) × (surface ≤ 192) × (at.chain.count ≤ most_strips) × HasRoom out.old n }
     ensures { (kept_of out.new result.kept ≡ plus_all word.now (kept_of out.old n)
         (over_forms (second_walk (replies sheet.now) surface at.chain (take at.end word.now)) (take at.end word.now) 0 all_forms)) × (result.kept ≤ list_limit + 1)
@@ -211,17 +178,13 @@ fn first_rows(
     let stem = at.end;
     let mut f = n;
     let mut v: usize = 0;
-    let mut k: u8 = 0;
-    while k < FORMS {
-        let first = k;
-        k += 1;
-        if begins(word, forms, form_cuts, 0, stem, first) {
-            let r = first_row(
-                word, sheet, texts, cuts, forms, form_cuts, at, first, surface, f, out,
-            );
-            f = r.kept;
-            v += r.visits;
+    for k in 0..FORMS {
+        if !begins(word, 0, stem, k) {
+            continue;
         }
+        let r = first_row(word, sheet, at, k, surface, f, out);
+        f = r.kept;
+        v += r.visits;
     }
     Tally { kept: f, visits: v }
 }
@@ -230,17 +193,13 @@ fn first_rows(
 pub(crate) fn with_stem(
     word: &[u8],
     sheet: &Lexicon<'_>,
-    texts: &[u8],
-    cuts: &[u16],
-    forms: &[u8],
-    form_cuts: &[u16],
     at: Piece,
     surface: u16,
     progressive: bool,
     n: usize,
     out: &mut [u8],
 ) -> Tally
-    requires { Lent word.now texts.now cuts.now forms.now form_cuts.now
+    requires { (length word.now ≤ 192)
         × (at.end ≤ length word.now) × (surface ≤ 192) × (at.chain.count ≤ most_strips) × (progressive ≡ is_progressive (replies sheet.now) (take at.end word.now)) × HasRoom out.old n }
     ensures { (kept_of out.new result.kept ≡ plus_all word.now (kept_of out.old n) (stem_walk (replies sheet.now) surface at.chain (take at.end word.now))) × (result.kept ≤ list_limit + 1)
         × (result.visits ≡ prefix_visits 2 (replies sheet.now) (take at.end word.now)) }
@@ -249,8 +208,6 @@ pub(crate) fn with_stem(
     let f = with_root(
         word,
         sheet,
-        texts,
-        cuts,
         at,
         0,
         Prefixes {
@@ -268,9 +225,7 @@ pub(crate) fn with_stem(
     if !may_begin(&word[..stem]) {
         return Tally { kept: f, visits: 1 };
     }
-    let more = first_rows(
-        word, sheet, texts, cuts, forms, form_cuts, at, surface, f, out,
-    );
+    let more = first_rows(word, sheet, at, surface, f, out);
     Tally {
         kept: more.kept,
         visits: 1 + more.visits,

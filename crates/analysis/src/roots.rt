@@ -1,6 +1,5 @@
 // A reading for a stem and a root, where the root is supported.
 ghost use Rattle.std.specs.Prelude.{◌≡◌, ◌+◌, ◌-◌, ◌≤◌, length, take, drop};
-ghost use Rattle.tables.specs.Tables.{Laid, affixes};
 ghost use Rattle.lookup.specs.Lexicons.{replies};
 ghost use Rattle.progressive.specs.Progressive.{is_progressive};
 ghost use Rattle.ranking.specs.Lists.{list_limit, plus_all};
@@ -19,8 +18,6 @@ use ranking::kept::store;
 pub(crate) fn with_root(
     word: &[u8],
     sheet: &Lexicon<'_>,
-    texts: &[u8],
-    cuts: &[u16],
     at: Piece,
     root: usize,
     prefixes: Prefixes,
@@ -29,15 +26,14 @@ pub(crate) fn with_root(
     n: usize,
     out: &mut [u8],
 ) -> usize
-    requires { Laid affixes texts.now cuts.now
-        × (root ≤ at.end) × (at.end ≤ length word.now) × (length word.now ≤ 192) × (surface ≤ 192) × (prefixes.count ≤ most_prefixes) × (at.chain.count ≤ most_strips)
+    requires { (root ≤ at.end) × (at.end ≤ length word.now) × (length word.now ≤ 192) × (surface ≤ 192) × (prefixes.count ≤ most_prefixes) × (at.chain.count ≤ most_strips)
         × (progressive ≡ is_progressive (replies sheet.now) (take (at.end - root) (drop root word.now))) × HasRoom out.old n }
     ensures { (kept_of out.new result ≡ plus_all word.now (kept_of out.old n)
         (root_found (replies sheet.now) surface at.chain word.now at.end root prefixes)) × (result ≤ list_limit + 1) }
 {
     let stem = at.end;
     let piece = &word[root..stem];
-    let s = support_of(sheet, texts, cuts, piece, progressive);
+    let s = support_of(sheet, piece, progressive);
     if !is_supported(s, piece.len()) {
         return n;
     }

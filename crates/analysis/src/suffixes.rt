@@ -1,7 +1,7 @@
 // The walk: suffixes stripped from the word's end, outermost first, and the readings of every stem on the way.
 ghost use Rattle.std.specs.Prelude.{◌≡◌, ◌+◌, ◌-◌, ◌*◌, ◌≤◌, ◌<◌, [], length, take, get_or};
 ghost use Rattle.runs.specs.Runs.{ends_in};
-ghost use Rattle.tables.specs.Tables.{Laid, affixes};
+ghost use Rattle.tables.specs.Tables.{affixes};
 ghost use Rattle.lookup.specs.Lexicons.{replies};
 ghost use Rattle.ranking.specs.Lists.{list_limit, plus_all};
 ghost use Rattle.ranking.specs.Kept.{kept_of, HasRoom};
@@ -9,7 +9,6 @@ ghost use Rattle.paths.specs.Chains.{all_rows, most_strips, rows_after};
 ghost use Rattle.paths.specs.Readings.{group_kind, kind_of};
 ghost use Rattle.paths.specs.Walk.{pushed_of, row_walk, piece_walk};
 ghost use Rattle.paths.specs.Weighed.{times_after, entries_at, row_weighed, weighed};
-ghost use Rattle.analysis.specs.Places.{Lent};
 
 use crate::prefixes::with_stem;
 use lookup::answers::SheetKind;
@@ -19,7 +18,7 @@ use progressive::find::has_supported_progressive_form;
 use ranking::{AffixKind, Segment};
 use runs::ends_with;
 use strips::suffix::suffix_rests;
-use tables::row;
+use tables::affix;
 
 // The kind of a row's group: plural markers are rows 0 and 1, case markers 2 to 17, particles the rest.
 fn group_kind(k: u8) -> AffixKind
@@ -82,12 +81,11 @@ fn counted(entries: u8, each: usize) -> usize
 }
 
 // The kind of a row: that of a kind line of the sheet, else that of its group.
-fn kind_at(sheet: &Lexicon<'_>, texts: &[u8], cuts: &[u16], k: u8) -> AffixKind
-    requires { Laid affixes texts.now cuts.now × (k < all_rows) }
+fn kind_at(sheet: &Lexicon<'_>, k: u8) -> AffixKind
+    requires { (k < all_rows) }
     ensures { result ≡ kind_of (replies sheet.now) k }
 {
-    let i = k as usize;
-    let listed = sheet.kind_of(row(texts, cuts, i));
+    let listed = sheet.kind_of(affix(usize::from(k)));
     match listed {
         SheetKind::Unlisted => group_kind(k),
         SheetKind::Post => AffixKind::Postposition,
@@ -110,12 +108,11 @@ fn pushed(c: Chain, s: Segment) -> Chain
 }
 
 // Whether the word's first `end` bytes end in the text of row k. Most do not, and then nothing more is asked.
-fn ends(word: &[u8], texts: &[u8], cuts: &[u16], end: usize, k: u8) -> bool
-    requires { Laid affixes texts.now cuts.now × (end ≤ length word.now) × (k < all_rows) }
+fn ends(word: &[u8], end: usize, k: u8) -> bool
+    requires { (end ≤ length word.now) × (k < all_rows) }
     ensures { result ≡ ends_in (get_or affixes k []) (take end word.now) }
 {
-    let i = k as usize;
-    ends_with(&word[..end], row(texts, cuts, i))
+    ends_with(&word[..end], affix(usize::from(k)))
 }
 
 // The readings of the piece that is the word's first `end` bytes, with the suffixes stripped so far: those that take it for the
@@ -125,16 +122,12 @@ fn ends(word: &[u8], texts: &[u8], cuts: &[u16], end: usize, k: u8) -> bool
 pub(crate) fn visit(
     word: &[u8],
     sheet: &Lexicon<'_>,
-    texts: &[u8],
-    cuts: &[u16],
-    forms: &[u8],
-    form_cuts: &[u16],
     at: Piece,
     surface: u16,
     n: usize,
     out: &mut [u8],
 ) -> Tally
-    requires { Lent word.now texts.now cuts.now forms.now form_cuts.now
+    requires { (length word.now ≤ 192)
         × (at.end ≤ length word.now) × (surface ≤ 192) × (at.chain.count ≤ most_strips) × (at.rows ≤ all_rows) × HasRoom out.old n × (at.times ≤ 2) }
     ensures { (kept_of out.new result.kept ≡ plus_all word.now (kept_of out.old n)
         (piece_walk (most_strips - at.chain.count) (replies sheet.now) surface at.chain at.rows (take at.end word.now))) × (result.kept ≤ list_limit + 1)
@@ -145,19 +138,7 @@ pub(crate) fn visit(
     let rows = at.rows;
     let times = at.times;
     let progressive = has_supported_progressive_form(sheet, &word[..end]);
-    let stem = with_stem(
-        word,
-        sheet,
-        texts,
-        cuts,
-        forms,
-        form_cuts,
-        at,
-        surface,
-        progressive,
-        n,
-        out,
-    );
+    let stem = with_stem(word, sheet, at, surface, progressive, n, out);
     let mut f = stem.kept;
     let each = 1 + stem.visits;
     let visits = counted(times, each);
@@ -168,17 +149,13 @@ pub(crate) fn visit(
         return Tally { kept: f, visits };
     }
     let mut v = counted(entries(rows, times), each);
-    let mut k: u8 = 0;
-    while k < rows {
-        let label = k;
-        k += 1;
-        if ends(word, texts, cuts, end, label) {
-            let r = below(
-                word, sheet, texts, cuts, forms, form_cuts, at, label, surface, f, out,
-            );
-            f = r.kept;
-            v += r.visits;
+    for k in 0..rows {
+        if !ends(word, end, k) {
+            continue;
         }
+        let r = below(word, sheet, at, k, surface, f, out);
+        f = r.kept;
+        v += r.visits;
     }
     Tally { kept: f, visits: v }
 }
@@ -188,17 +165,13 @@ pub(crate) fn visit(
 fn below(
     word: &[u8],
     sheet: &Lexicon<'_>,
-    texts: &[u8],
-    cuts: &[u16],
-    forms: &[u8],
-    form_cuts: &[u16],
     at: Piece,
     k: u8,
     surface: u16,
     n: usize,
     out: &mut [u8],
 ) -> Tally
-    requires { Lent word.now texts.now cuts.now forms.now form_cuts.now
+    requires { (length word.now ≤ 192)
         × (at.end ≤ length word.now) × (surface ≤ 192) × (at.chain.count < most_strips) × (k < all_rows) × HasRoom out.old n × (at.times ≤ 2) }
     ensures { (kept_of out.new result.kept ≡ plus_all word.now (kept_of out.old n)
         (row_walk (piece_walk (3 - at.chain.count) (replies sheet.now) surface) (replies sheet.now) at.chain (take at.end word.now) k)) × (result.kept ≤ list_limit + 1)
@@ -206,12 +179,11 @@ fn below(
 {
     let end = at.end;
     let chain = at.chain;
-    let i = k as usize;
-    let rests = suffix_rests(&word[..end], row(texts, cuts, i));
+    let rests = suffix_rests(&word[..end], affix(usize::from(k)));
     let Some(plain) = rests.plain else {
         return Tally { kept: n, visits: 0 };
     };
-    let kind = kind_at(sheet, texts, cuts, k);
+    let kind = kind_at(sheet, k);
     let rows = rows_after(k);
     let times = times_after(at.times, k);
     let next = pushed(
@@ -225,10 +197,6 @@ fn below(
     let f = visit(
         word,
         sheet,
-        texts,
-        cuts,
-        forms,
-        form_cuts,
         Piece {
             end: plain,
             chain: next,
@@ -253,10 +221,6 @@ fn below(
     let g = visit(
         word,
         sheet,
-        texts,
-        cuts,
-        forms,
-        form_cuts,
         Piece {
             end: shared,
             chain: other,

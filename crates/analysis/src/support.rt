@@ -1,6 +1,5 @@
 // Which roots are supported, and how a reading scores.
 ghost use Rattle.std.specs.Prelude.{◌≡◌, ◌++◌, ◌≤◌};
-ghost use Rattle.tables.specs.Tables.{Laid, affixes};
 ghost use Rattle.lookup.specs.Lexicons.{replies};
 ghost use Rattle.lookup.specs.Begins.{Begun};
 ghost use Rattle.progressive.specs.Progressive.{is_progressive};
@@ -11,7 +10,7 @@ ghost use Rattle.analysis.specs.Supports.{is_alone, support_of, score_from, supp
 use lookup::begins::Range;
 use lookup::lexicon::Lexicon;
 use sheet::letters::Letters;
-use tables::row;
+use tables::affix;
 
 // What the sheet says of a root: known by w, by h, an appended form known, a supported progressive form.
 #[derive(Clone, Copy)]
@@ -35,23 +34,14 @@ pub(crate) fn is_known(sheet: &Lexicon<'_>, range: Range, p: &[u8], q: &[u8]) ->
 }
 
 // Whether the sheet knows the piece with one of the 25 texts appended. The lines whose names begin with the piece are known.
-pub(crate) fn has_sibling(
-    sheet: &Lexicon<'_>,
-    range: Range,
-    texts: &[u8],
-    cuts: &[u16],
-    piece: &[u8],
-) -> bool
-    requires { Begun sheet.now.bytes.now sheet.now.starts.now 0x77 piece.now range × Laid affixes texts.now cuts.now }
+pub(crate) fn has_sibling(sheet: &Lexicon<'_>, range: Range, piece: &[u8]) -> bool
+    requires { Begun sheet.now.bytes.now sheet.now.starts.now 0x77 piece.now range }
     ensures { result ≡ has_sibling (replies sheet.now) piece.now }
 {
-    let mut k: usize = 0;
-    while k < 25 {
-        let text = row(texts, cuts, k);
-        if is_known(sheet, range, piece, text) {
+    for k in 0..25 {
+        if is_known(sheet, range, piece, affix(k)) {
             return true;
         }
-        k += 1;
     }
     false
 }
@@ -113,14 +103,8 @@ fn is_alone(range: Range, letters: Letters) -> bool
 
 // What the sheet says of a root; whether it is a supported progressive form is known already. Where no name begins with the root,
 // or only its own, one search settles all 26 questions.
-pub(crate) fn support_of(
-    sheet: &Lexicon<'_>,
-    texts: &[u8],
-    cuts: &[u16],
-    root: &[u8],
-    progressive: bool,
-) -> Support
-    requires { Laid affixes texts.now cuts.now × (progressive ≡ is_progressive (replies sheet.now) root.now) }
+pub(crate) fn support_of(sheet: &Lexicon<'_>, root: &[u8], progressive: bool) -> Support
+    requires { (progressive ≡ is_progressive (replies sheet.now) root.now) }
     ensures { result ≡ support_of (replies sheet.now) root.now }
 {
     let range = sheet.range_of(b'w', root);
@@ -141,7 +125,7 @@ pub(crate) fn support_of(
             progressive,
         };
     }
-    let sibling = has_sibling(sheet, range, texts, cuts, root);
+    let sibling = has_sibling(sheet, range, root);
     Support {
         word: letters.word,
         head: letters.head,

@@ -1,25 +1,46 @@
--- Keys of a rank in their order: the first that does not stand alike decides. The proofs of `key_order` and `rank` cite these.
--- Assumes nothing.
-use mathlib.Core.Path.{◌≡◌, refl, sym, ap, ◌∙◌}
-use mathlib.Core.Bool.{true, false}
-use Prim.Native.Nat.{ℕ}
+-- Keys of a rank in their order, and the orders of std by which the code compares them. The proofs of `key_order`, `rank` and `holds`
+-- cite these. Assumes nothing.
+use mathlib.Core.Path.{◌≡◌, refl, ap, ◌∙◌}
+use mathlib.Core.Bool.{Bool, true, false}
+use Rattle.std.specs.Ordering.{MatchOrdering, is_eq, nat_cmp, bool_cmp}
+use Rattle.std.specs.Cmp.{ranks}
+use Prim.Native.Nat.{ℕ, ◌<◌}
 use native.Mathlib.Omega.{arith}
 use Rattle.std.specs.declared.cmp.Ordering.{Ordering}
 use Rattle.std.specs.declared.cmp.Ordering.TheVariants.{Less, Equal, Greater}
-use Rattle.roots.specs.Rank.{is_equal, then_by}
+use borrow.Author.Tests.{lt-ltb, le-ltb}
+use Rattle.roots.specs.Rank.{is_equal, then_by, descending, having}
 
-pub decides : (o x rest : Ordering) → o ≡ x → is_equal o ≡ false → o ≡ then_by x rest
-decides o x rest e f = go o f ∙ ap (λ (q : Ordering). then_by q rest) e
+-- std's `then_with` is the first that decides
+pub then_is : {P : Type 0} (o x r rest : Ordering) → o ≡ x → MatchOrdering o (r ≡ Less) P (r ≡ Greater) → (P → r ≡ rest) → r ≡ then_by x rest
+then_is {P} o x r rest e m f = go o m ∙ ap (λ (q : Ordering). then_by q rest) e
   where
-    go : (o : Ordering) → is_equal o ≡ false → o ≡ then_by o rest
-    go Less f = refl
-    go Equal f = let z : ◌≡◌ {A = ℕ} 0 1 = cc in absurd (omega arith)
-    go Greater f = refl
+    go : (o : Ordering) → MatchOrdering o (r ≡ Less) P (r ≡ Greater) → r ≡ then_by o rest
+    go Less m = m
+    go Equal m = f m
+    go Greater m = m
 
-pub passes : (o x y rest : Ordering) → o ≡ x → is_equal o ≡ true → y ≡ rest → y ≡ then_by x rest
-passes o x y rest e f r = r ∙ ap (λ (q : Ordering). then_by q rest) (sym (alike o f) ∙ e)
+pub then_later : (a b c : Ordering) → then_by (then_by a b) c ≡ then_by a (then_by b c)
+then_later Less b c = refl
+then_later Equal b c = refl
+then_later Greater b c = refl
+
+-- the larger number first, and having it first, as std compares them
+pub descends : (a b : ℕ) → nat_cmp b a ≡ descending a b
+descends a b = by (nat_cmp b a) (ranks b a)
   where
-    alike : (o : Ordering) → is_equal o ≡ true → o ≡ Equal
-    alike Less f = let z : ◌≡◌ {A = ℕ} 0 1 = cc in absurd (omega arith)
-    alike Equal f = refl
-    alike Greater f = let z : ◌≡◌ {A = ℕ} 0 1 = cc in absurd (omega arith)
+    by : (o : Ordering) → MatchOrdering o (b < a) (b ≡ a) (a < b) → o ≡ descending a b
+    by Less h = rw (lt-ltb b a h)
+    by Equal h = rw (le-ltb b a (omega arith), le-ltb a b (omega arith))
+    by Greater h = rw (le-ltb b a (omega arith), lt-ltb a b h)
+
+pub havings : (a b : Bool) → bool_cmp b a ≡ having a b
+havings true true = refl
+havings true false = refl
+havings false true = refl
+havings false false = refl
+
+pub equals : (o : Ordering) → is_eq o ≡ is_equal o
+equals Less = refl
+equals Equal = refl
+equals Greater = refl

@@ -1,22 +1,19 @@
 -- Laws of labels by their rows: lists of labels compared. The proofs of the functions of `order` cite
 -- these. Assumes nothing.
-use mathlib.Core.Path.{◌≡◌, sym, ap, ◌∙◌}
+use mathlib.Core.Path.{◌≡◌, sym}
 use mathlib.Core.List.{List, map}
-use Prim.Native.Nat.{ℕ, ◌+◌, ◌<◌, ◌≤◌}
-use native.Mathlib.Numerals.{add-one}
-use lib.ListN.{length, drop, get_or, drop_of_length-le}
+use Prim.Native.Nat.{ℕ, min, ◌<◌, ◌≤◌}
+use lib.ListN.{length, drop, drop_of_length-le}
 use lib.Seq.{drop-cons}
-use Rattle.runs.specs.Runs.{cmp}
 use Rattle.std.specs.declared.cmp.Ordering.{Ordering}
 use Rattle.std.specs.declared.cmp.Ordering.TheVariants.{Less, Equal, Greater}
-use Rattle.roots.specs.Rank.{then_by, cmp_texts}
+use Rattle.std.specs.Ordering.{MatchOrdering, nat_cmp}
+use Rattle.std.specs.Cmp.{ranks}
+use native.Mathlib.Omega.{arith}
+use Rattle.roots.specs.Rank.{cmp_texts}
 
 -- two lists of labels, label by label
 module _ (f : ℕ → List ℕ) (a b : List ℕ) (i : ℕ) where
-  pub labels_turn : i < length a → i < length b → cmp_texts (map f (drop i a)) (map f (drop i b))
-      ≡ then_by (cmp (f (get_or a i 0)) (f (get_or b i 0))) (cmp_texts (map f (drop (i + 1) a)) (map f (drop (i + 1) b)))
-  labels_turn h k = rw (add-one, drop-cons a i 0, drop-cons b i 0)
-
   pub labels_long : i < length a → length b ≤ i → cmp_texts (map f (drop i a)) (map f (drop i b)) ≡ Greater
   labels_long h k = rw (drop-cons a i 0, drop_of_length-le b k)
 
@@ -26,7 +23,11 @@ module _ (f : ℕ → List ℕ) (a b : List ℕ) (i : ℕ) where
   pub labels_ended : length a ≤ i → length b ≤ i → cmp_texts (map f (drop i a)) (map f (drop i b)) ≡ Equal
   labels_ended h k = rw (drop_of_length-le a h, drop_of_length-le b k)
 
-  -- the two labels of a turn decide
-  pub labels-decided : (o : Ordering) → i < length a → i < length b → o ≡ cmp (f (get_or a i 0)) (f (get_or b i 0))
-      → cmp_texts (map f (drop i a)) (map f (drop i b)) ≡ then_by o (cmp_texts (map f (drop (i + 1) a)) (map f (drop (i + 1) b)))
-  labels-decided o h k e = labels_turn h k ∙ ap (λ (x : Ordering). then_by x (cmp_texts (map f (drop (i + 1) a)) (map f (drop (i + 1) b)))) (sym e)
+  -- where the shorter list has ended, the lengths decide
+  pub labels_lengths : i ≡ min (length a) (length b) → nat_cmp (length a) (length b) ≡ cmp_texts (map f (drop i a)) (map f (drop i b))
+  labels_lengths h = by (nat_cmp (length a) (length b)) (ranks (length a) (length b))
+    where
+      by : (o : Ordering) → MatchOrdering o (length a < length b) (length a ≡ length b) (length b < length a) → o ≡ cmp_texts (map f (drop i a)) (map f (drop i b))
+      by Less e = sym (labels-short (omega arith) (omega arith))
+      by Equal e = sym (labels_ended (omega arith) (omega arith))
+      by Greater e = sym (labels_long (omega arith) (omega arith))

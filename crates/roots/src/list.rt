@@ -5,7 +5,7 @@ ghost use Rattle.roots.specs.Rank.{ahead_of};
 ghost use Rattle.roots.specs.Lists.{rows_of, is_some, first_in, holds_in, place_in, root_limit};
 ghost use Rattle.roots.specs.Room.{once_within};
 
-use crate::order::{is_equal, key_order, rank};
+use crate::order::{key_order, rank};
 use crate::{RootCandidate, Roots};
 use decomposition::Parts;
 use std::cmp::Ordering;
@@ -25,7 +25,7 @@ fn holds(word: &[u8], list: Roots, p: Parts) -> bool
     ensures { result ≡ holds_in word.now p (rows_of list) }
 {
     for i in 0..list.count {
-        if is_equal(key_order(word, p, list.rows[i].parts)) {
+        if key_order(word, p, list.rows[i].parts).is_eq() {
             return true;
         }
     }

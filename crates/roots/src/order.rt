@@ -1,59 +1,15 @@
 // The rank of two candidates of one word, and whether they are the same root, prefixes and suffixes.
 ghost use Rattle.std.specs.Prelude.{◌≡◌, map, take};
+ghost use Rattle.text.specs.Characters.{chars};
+ghost use Rattle.decomposition.specs.Parts.{root_text};
 ghost use Rattle.tables.specs.Rows.{suffixes, prefix_labels};
-ghost use Rattle.roots.specs.Rank.{descending, having, is_equal, text_of, cmp_texts, prefix_texts, suffix_texts, key_order, rank_of};
+ghost use Rattle.roots.specs.Rank.{descending, text_of, cmp_texts, prefix_texts, suffix_texts, key_order, rank_of};
 
 use crate::RootCandidate;
 use decomposition::{Parts, root_of};
 use runs::compare;
 use std::cmp::Ordering;
 use tables::{prefix_label, prefix_rows, suffix, suffix_rows};
-
-// Whether two things stand alike.
-pub(crate) fn is_equal(o: Ordering) -> bool
-    ensures { result ≡ is_equal o }
-{
-    matches!(o, Ordering::Equal)
-}
-
-// The larger number first.
-fn larger_first(a: usize, b: usize) -> Ordering
-    ensures { result ≡ descending a b }
-{
-    if b < a {
-        return Ordering::Less;
-    }
-    if a < b {
-        return Ordering::Greater;
-    }
-    Ordering::Equal
-}
-
-// Having it comes first.
-fn having_first(a: bool, b: bool) -> Ordering
-    ensures { result ≡ having a b }
-{
-    if a {
-        if b {
-            return Ordering::Equal;
-        }
-        return Ordering::Less;
-    }
-    if b {
-        return Ordering::Greater;
-    }
-    Ordering::Equal
-}
-
-// The first n bytes of a, or all of them where there are fewer.
-fn first_of<'a>(a: &'a [u8], n: usize) -> &'a [u8]
-    ensures { result.now ≡ take n a.now }
-{
-    if a.len() < n {
-        return a;
-    }
-    &a[..n]
-}
 
 // The label of row k of SUFFIXES, nothing where there is no such row.
 fn suffix_text(k: u8) -> &'static [u8]
@@ -81,39 +37,28 @@ fn prefix_text(k: u8) -> &'static [u8]
 fn compare_labels(a: &[u8], b: &[u8]) -> Ordering
     ensures { result ≡ cmp_texts (map (text_of suffixes) a.now) (map (text_of suffixes) b.now) }
 {
-    let mut i: usize = 0;
-    while i < a.len() {
-        if b.len() <= i {
-            return Ordering::Greater;
-        }
+    for i in 0..a.len().min(b.len()) {
         let order = compare(suffix_text(a[i]), suffix_text(b[i]));
-        match order {
-            Ordering::Less => {
-                return Ordering::Less;
-            }
-            Ordering::Greater => {
-                return Ordering::Greater;
-            }
-            Ordering::Equal => {
-                i += 1;
-            }
+        if order.is_ne() {
+            return order;
         }
     }
-    if i < b.len() {
-        return Ordering::Less;
-    }
-    Ordering::Equal
+    a.len().cmp(&b.len())
+}
+
+// The labels of parts that suffixes were stripped for, by their rows.
+fn suffix_rows_of(p: &Parts) -> &[u8]
+    ensures { result.now ≡ take p.now.suffix_count p.now.suffixes }
+{
+    let n = p.suffix_count as usize;
+    &p.suffixes[..n.min(24)]
 }
 
 // The order of two lists of suffix labels.
 fn suffix_order(a: Parts, b: Parts) -> Ordering
     ensures { result ≡ cmp_texts (suffix_texts a) (suffix_texts b) }
 {
-    let x = a.suffixes;
-    let n = a.suffix_count as usize;
-    let y = b.suffixes;
-    let m = b.suffix_count as usize;
-    compare_labels(first_of(&x, n), first_of(&y, m))
+    compare_labels(suffix_rows_of(&a), suffix_rows_of(&b))
 }
 
 // The order of two lists of prefix labels, each of one or none.
@@ -128,45 +73,33 @@ fn prefix_order(a: Parts, b: Parts) -> Ordering
     }
 }
 
+// The order of two roots by their characters: the longer one first.
+fn length_order(word: &[u8], a: Parts, b: Parts) -> Ordering
+    ensures { result ≡ descending (chars (root_text word.now a)) (chars (root_text word.now b)) }
+{
+    let n = text::characters::count(root_of(word, a));
+    let m = text::characters::count(root_of(word, b));
+    m.cmp(&n)
+}
+
 // The order of two roots with their labels: root bytes, prefix labels, suffix labels. They stand alike only where all three are the
 // same.
 pub(crate) fn key_order(word: &[u8], a: Parts, b: Parts) -> Ordering
     ensures { result ≡ key_order word.now a b }
 {
     let root = compare(root_of(word, a), root_of(word, b));
-    if !is_equal(root) {
-        return root;
-    }
-    let prefix = prefix_order(a, b);
-    if !is_equal(prefix) {
-        return prefix;
-    }
-    suffix_order(a, b)
+    root.then_with(|| prefix_order(a, b))
+        .then_with(|| suffix_order(a, b))
 }
 
 // The rank of two candidates of the word: Less where the first comes first.
 pub(crate) fn rank(word: &[u8], a: RootCandidate, b: RootCandidate) -> Ordering
     ensures { result ≡ rank_of word.now a b }
 {
-    let score = larger_first(a.score as usize, b.score as usize);
-    if !is_equal(score) {
-        return score;
-    }
-    let head = having_first(a.known_headword, b.known_headword);
-    if !is_equal(head) {
-        return head;
-    }
-    let known = having_first(a.known_word, b.known_word);
-    if !is_equal(known) {
-        return known;
-    }
-    let p = a.parts;
-    let q = b.parts;
-    let n = text::characters::count(root_of(word, p));
-    let m = text::characters::count(root_of(word, q));
-    let length = larger_first(n, m);
-    if !is_equal(length) {
-        return length;
-    }
-    key_order(word, p, q)
+    b.score
+        .cmp(&a.score)
+        .then_with(|| b.known_headword.cmp(&a.known_headword))
+        .then_with(|| b.known_word.cmp(&a.known_word))
+        .then_with(|| length_order(word, a.parts, b.parts))
+        .then_with(|| key_order(word, a.parts, b.parts))
 }

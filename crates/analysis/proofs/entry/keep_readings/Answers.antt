@@ -33,11 +33,7 @@ overflow_cast-surface c = omega (arith, few (goal.at.overflow_cast-surface c).Af
 
 pub visit-walked-requires : goal.visit-walked-requires
 visit-walked-requires c = (
-  record {
-    texts_laid = record { in_bytes = c.affixes-texts.ensures; in_starts = c.affix_starts-cuts.ensures };
-    forms-laid = record { in_bytes = c.prefix_forms-forms.ensures; in_starts = c.prefix_form_starts-form_cuts.ensures };
-    short = (word-parts c.args.word.now c.requires.0).0;
-  },
+  (word-parts c.args.word.now c.requires.0).0,
   omega arith,
   few (goal.at.visit-walked-requires c).After-count-surface,
   omega arith,

@@ -29,12 +29,6 @@ offset_bounds-list-i c = omega arith
 pub bounds-list-i : goal.bounds-list-i
 bounds-list-i c = omega arith
 
-pub overflow_add-i : goal.overflow_add-i
-overflow_add-i c = omega arith
-
-pub loop-i-smaller : goal.loop-i-smaller
-loop-i-smaller c = omega arith
-
 -- one row more
 grown : (f : Reading → Classified) (xs : List Classified) (ys : List Reading) (i : ℕ) (r : Reading) (a : Classified) → i < length xs → i < length ys
     → r ≡ get_or ys i no_reading → a ≡ f r → take i xs ≡ map f (take i ys) → take (i + 1) (set xs i a) ≡ map f (take (i + 1) ys)

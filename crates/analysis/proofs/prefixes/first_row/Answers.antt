@@ -5,8 +5,6 @@ use mathlib.Core.Path.{◌≡◌, sym, ap, ◌∙◌}
 use mathlib.Core.List.{List, [], ◌∷◌}
 use lib.ListN.{length, take}
 use lib.Seq.{length-take-le}
-use Rattle.tables.proofs.Facts.{prefix_form_count}
-use Rattle.tables.proofs.Laid.{laid-asks}
 use Rattle.strips.specs.Prefix.{prefix_remainder}
 use Rattle.strips.proofs.Remainders.{rest-inside}
 use Rattle.sheet.specs.Replies.{reply}
@@ -26,16 +24,13 @@ use Rattle.analysis.proofs.prefixes.first_row.Goals as goal
 use Rattle.analysis.proofs.prefixes.first_row.Lts.View.{up-In-Some}
 use Rattle.analysis.proofs.prefixes.first_row.Goals.{After-with_root-f, In-Some}
 
-pub row-form-requires : goal.row-form-requires
-row-form-requires c = laid-asks c.requires.0.forms-laid c.args.first (omega (arith, prefix_form_count, c.requires.2))
-
 pub slice_bounds-prefix_rest-end : goal.slice_bounds-prefix_rest-end
 slice_bounds-prefix_rest-end c = sym (length-take-le c.args.at.end c.args.word.now c.requires.1)
 
 -- the root begins inside the stem
 inside : (c : In-Some) → c.in-Some.root ≤ c.args.at.end
 inside c =
-    let n = rest-inside (take c.args.at.end c.args.word.now) (form_of c.args.first) c.in-Some.root (sym ((asked c.requires.0.forms-laid c.args.first (omega (arith, prefix_form_count, c.requires.2)) (take c.args.at.end c.args.word.now) _ _ c.prefix_rest-rest.ensures c.row-form.ensures)) ∙ c.in-Some.is) in
+    let n = rest-inside (take c.args.at.end c.args.word.now) (form_of c.args.first) c.in-Some.root (sym ((asked c.args.first (take c.args.at.end c.args.word.now) _ _ c.prefix_rest-rest.ensures (c.prefix_form.ensures ∙ ap form_of c.from.ensures))) ∙ c.in-Some.is) in
     let l : length (take c.args.at.end c.args.word.now) ≡ c.args.at.end = length-take-le c.args.at.end c.args.word.now c.requires.1 in
     omega (arith, n)
 
@@ -47,16 +42,16 @@ slice_bounds-has_supported_progressive_form-start c = omega (arith, inside (goal
 
 pub with_root-f-requires : goal.with_root-f-requires
 with_root-f-requires c =
-    (c.requires.0.texts_laid, inside (goal.at.with_root-f-requires c).In-Some, c.requires.1, c.requires.0.short, c.requires.3, omega arith, c.requires.4, c.has_supported_progressive_form-progressive.ensures, c.requires.5)
+    (inside (goal.at.with_root-f-requires c).In-Some, c.requires.1, c.requires.0, c.requires.3, omega arith, c.requires.4, c.has_supported_progressive_form-progressive.ensures, c.requires.5)
 
 pub returns-in-None : goal.returns-in-None
 unfolding plus_all
 returns-in-None c =
     let a = c.args in (
       sym (ap (λ (l : List (List ℕ)). plus_all a.word.now (kept_of a.out.now a.n) (on_left (second_walk (reply a.sheet.now.bytes.now) a.surface a.at.chain (take a.at.end a.word.now) a.first) l))
-          (front-none a.word.now a.at.end (form_of a.first) (sym c.in-None.is ∙ (asked c.requires.0.forms-laid c.args.first (omega (arith, prefix_form_count, c.requires.2)) (take c.args.at.end c.args.word.now) _ _ c.prefix_rest-rest.ensures c.row-form.ensures)))),
+          (front-none a.word.now a.at.end (form_of a.first) (sym c.in-None.is ∙ (asked c.args.first (take c.args.at.end c.args.word.now) _ _ c.prefix_rest-rest.ensures (c.prefix_form.ensures ∙ ap form_of c.from.ensures))))),
       c.requires.5.1,
-      left-none (prefix_visits 1 (reply a.sheet.now.bytes.now)) (take c.args.at.end c.args.word.now) (form_of a.first) (front-none a.word.now a.at.end (form_of a.first) (sym c.in-None.is ∙ (asked c.requires.0.forms-laid c.args.first (omega (arith, prefix_form_count, c.requires.2)) (take c.args.at.end c.args.word.now) _ _ c.prefix_rest-rest.ensures c.row-form.ensures))),
+      left-none (prefix_visits 1 (reply a.sheet.now.bytes.now)) (take c.args.at.end c.args.word.now) (form_of a.first) (front-none a.word.now a.at.end (form_of a.first) (sym c.in-None.is ∙ (asked c.args.first (take c.args.at.end c.args.word.now) _ _ c.prefix_rest-rest.ensures (c.prefix_form.ensures ∙ ap form_of c.from.ensures)))),
     )
 
 -- the prefix's own reading is kept, and the rest of the walk begins at what it leaves
@@ -76,7 +71,7 @@ module _ (c : After-with_root-f) where
   whole e =
       let a = c.args in
       e ∙ sym (ap (λ (l : List (List ℕ)). plus_all a.word.now (kept_of a.out.now a.n) (on_left (second_walk (reply a.sheet.now.bytes.now) a.surface a.at.chain (take a.at.end a.word.now) a.first) l))
-      (front-left a.word.now a.at.end (form_of a.first) c.in-Some.root (sym c.in-Some.is ∙ (asked c.requires.0.forms-laid c.args.first (omega (arith, prefix_form_count, c.requires.2)) (take c.args.at.end c.args.word.now) _ _ c.prefix_rest-rest.ensures c.row-form.ensures))))
+      (front-left a.word.now a.at.end (form_of a.first) c.in-Some.root (sym c.in-Some.is ∙ (asked c.args.first (take c.args.at.end c.args.word.now) _ _ c.prefix_rest-rest.ensures (c.prefix_form.ensures ∙ ap form_of c.from.ensures)))))
 
   -- and so is what is counted there
   counted : {v : ℕ} → v ≡ prefix_visits 1 (reply c.args.sheet.now.bytes.now) rest
@@ -84,7 +79,7 @@ module _ (c : After-with_root-f) where
   counted {v} e =
       let a = c.args in
       left_one (prefix_visits 1 (reply a.sheet.now.bytes.now)) (take a.at.end a.word.now) (form_of a.first) rest v
-      (front-left a.word.now a.at.end (form_of a.first) c.in-Some.root (sym c.in-Some.is ∙ (asked c.requires.0.forms-laid c.args.first (omega (arith, prefix_form_count, c.requires.2)) (take c.args.at.end c.args.word.now) _ _ c.prefix_rest-rest.ensures c.row-form.ensures))) e
+      (front-left a.word.now a.at.end (form_of a.first) c.in-Some.root (sym c.in-Some.is ∙ (asked c.args.first (take c.args.at.end c.args.word.now) _ _ c.prefix_rest-rest.ensures (c.prefix_form.ensures ∙ ap form_of c.from.ensures)))) e
 
 pub returns-then-progressive : goal.returns-then-progressive
 returns-then-progressive c =

@@ -23,6 +23,3 @@ invariant-loop-k l = (l.k ≤ all_forms) × (l.f ≤ list_limit + 1) × (length 
     × (plus_all l.word (kept_of l.initial.out l.initial.f) (over_forms (each l.word l.sheet.bytes.now l.at.end l.at.chain l.surface) (take l.at.end l.word) 0 all_forms)
     ≡ plus_all l.word (kept_of l.out l.f) (over_forms (each l.word l.sheet.bytes.now l.at.end l.at.chain l.surface) (take l.at.end l.word) l.k (all_forms - l.k)))
     × Counted (prefix_visits 1 (reply l.sheet.bytes.now)) (take l.at.end l.word) l.k l.v
-
-abbrev pub decreases-loop-k : goal.decreases-loop-k
-decreases-loop-k l = all_forms - l.k

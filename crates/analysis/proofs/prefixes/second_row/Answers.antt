@@ -4,8 +4,6 @@ use native.Mathlib.Omega.{arith}
 use mathlib.Core.Path.{◌≡◌, sym, ap, ◌∙◌}
 use mathlib.Core.List.{List, [], ◌∷◌}
 use lib.ListN.{length, take}
-use Rattle.tables.proofs.Facts.{prefix_form_count}
-use Rattle.tables.proofs.Laid.{laid-asks}
 use Rattle.strips.proofs.Remainders.{rest-inside}
 use Rattle.sheet.specs.Replies.{reply}
 use Rattle.ranking.specs.Lists.{plus_all}
@@ -19,13 +17,10 @@ use Rattle.analysis.proofs.Visited.{left-none, left_one, prefix_last}
 use Rattle.analysis.proofs.prefixes.second_row.Goals as goal
 use Rattle.analysis.proofs.prefixes.second_row.Goals.{In-Some}
 
-pub row-form-requires : goal.row-form-requires
-row-form-requires c = laid-asks c.requires.0.forms-laid c.args.second (omega (arith, prefix_form_count, c.requires.3))
-
 -- the root begins inside the stem
 inside : (c : In-Some) → c.args.«from» + c.in-Some.cut ≤ c.args.at.end
 inside c =
-    let n = rest-inside (between c.args.word.now c.args.«from» c.args.at.end) (form_of c.args.second) c.in-Some.cut (sym ((asked c.requires.0.forms-laid c.args.second (omega (arith, prefix_form_count, c.requires.3)) (between c.args.word.now c.args.«from» c.args.at.end) _ _ c.prefix_rest-rest.ensures c.row-form.ensures)) ∙ c.in-Some.is) in
+    let n = rest-inside (between c.args.word.now c.args.«from» c.args.at.end) (form_of c.args.second) c.in-Some.cut (sym ((asked c.args.second (between c.args.word.now c.args.«from» c.args.at.end) _ _ c.prefix_rest-rest.ensures (c.prefix_form.ensures ∙ ap form_of c.from.ensures))) ∙ c.in-Some.is) in
     let l : length (between c.args.word.now c.args.«from» c.args.at.end) ≡ c.args.at.end - c.args.«from» = between-length c.args.word.now c.args.«from» c.args.at.end c.requires.1 c.requires.2 in
     omega (arith, n, c.requires.1)
 
@@ -40,16 +35,16 @@ slice_bounds-has_supported_progressive_form-start c = omega (arith, inside (goal
 
 pub with_root-kept-requires : goal.with_root-kept-requires
 with_root-kept-requires c =
-    (c.requires.0.texts_laid, inside (goal.at.with_root-kept-requires c).In-Some, c.requires.2, c.requires.0.short, c.requires.4, omega arith, c.requires.5, c.has_supported_progressive_form-progressive.ensures, c.requires.6)
+    (inside (goal.at.with_root-kept-requires c).In-Some, c.requires.2, c.requires.0, c.requires.4, omega arith, c.requires.5, c.has_supported_progressive_form-progressive.ensures, c.requires.6)
 
 pub returns-in-None : goal.returns-in-None
 unfolding plus_all
 returns-in-None c =
     let a = c.args in (
       sym (ap (λ (l : List (List ℕ)). plus_all a.word.now (kept_of a.out.now a.n) (on_left (root_walk (reply a.sheet.now.bytes.now) a.surface a.at.chain (take a.at.end a.word.now) (a.first ∷ a.second ∷ [])) l))
-          (none_left a.word.now a.«from» a.at.end (form_of a.second) (sym c.in-None.is ∙ (asked c.requires.0.forms-laid c.args.second (omega (arith, prefix_form_count, c.requires.3)) (between c.args.word.now c.args.«from» c.args.at.end) _ _ c.prefix_rest-rest.ensures c.row-form.ensures)))),
+          (none_left a.word.now a.«from» a.at.end (form_of a.second) (sym c.in-None.is ∙ (asked c.args.second (between c.args.word.now c.args.«from» c.args.at.end) _ _ c.prefix_rest-rest.ensures (c.prefix_form.ensures ∙ ap form_of c.from.ensures))))),
       c.requires.6.1,
-      left-none (prefix_visits 0 (reply a.sheet.now.bytes.now)) (between c.args.word.now c.args.«from» c.args.at.end) (form_of a.second) (none_left a.word.now a.«from» a.at.end (form_of a.second) (sym c.in-None.is ∙ (asked c.requires.0.forms-laid c.args.second (omega (arith, prefix_form_count, c.requires.3)) (between c.args.word.now c.args.«from» c.args.at.end) _ _ c.prefix_rest-rest.ensures c.row-form.ensures))),
+      left-none (prefix_visits 0 (reply a.sheet.now.bytes.now)) (between c.args.word.now c.args.«from» c.args.at.end) (form_of a.second) (none_left a.word.now a.«from» a.at.end (form_of a.second) (sym c.in-None.is ∙ (asked c.args.second (between c.args.word.now c.args.«from» c.args.at.end) _ _ c.prefix_rest-rest.ensures (c.prefix_form.ensures ∙ ap form_of c.from.ensures)))),
     )
 
 pub returns-in-Some : goal.returns-in-Some
@@ -58,8 +53,8 @@ returns-in-Some c =
       c.with_root-kept.ensures.0
           ∙ ap (plus_all a.word.now (kept_of a.out.now a.n)) (root_at a.word.now (a.«from» + c.in-Some.cut) a.at.end (reply a.sheet.now.bytes.now) a.surface a.at.chain (a.first ∷ a.second ∷ []) (inside (goal.at.returns-in-Some c).In-Some) c.requires.2)
           ∙ sym (ap (λ (l : List (List ℕ)). plus_all a.word.now (kept_of a.out.now a.n) (on_left (root_walk (reply a.sheet.now.bytes.now) a.surface a.at.chain (take a.at.end a.word.now) (a.first ∷ a.second ∷ [])) l))
-          (one_left a.word.now a.«from» a.at.end (form_of a.second) c.in-Some.cut (sym c.in-Some.is ∙ (asked c.requires.0.forms-laid c.args.second (omega (arith, prefix_form_count, c.requires.3)) (between c.args.word.now c.args.«from» c.args.at.end) _ _ c.prefix_rest-rest.ensures c.row-form.ensures)))),
+          (one_left a.word.now a.«from» a.at.end (form_of a.second) c.in-Some.cut (sym c.in-Some.is ∙ (asked c.args.second (between c.args.word.now c.args.«from» c.args.at.end) _ _ c.prefix_rest-rest.ensures (c.prefix_form.ensures ∙ ap form_of c.from.ensures))))),
       c.with_root-kept.ensures.1,
       left_one (prefix_visits 0 (reply a.sheet.now.bytes.now)) (between c.args.word.now c.args.«from» c.args.at.end) (form_of a.second) _ 1
-          (one_left a.word.now a.«from» a.at.end (form_of a.second) c.in-Some.cut (sym c.in-Some.is ∙ (asked c.requires.0.forms-laid c.args.second (omega (arith, prefix_form_count, c.requires.3)) (between c.args.word.now c.args.«from» c.args.at.end) _ _ c.prefix_rest-rest.ensures c.row-form.ensures))) (prefix_last (reply a.sheet.now.bytes.now) _),
+          (one_left a.word.now a.«from» a.at.end (form_of a.second) c.in-Some.cut (sym c.in-Some.is ∙ (asked c.args.second (between c.args.word.now c.args.«from» c.args.at.end) _ _ c.prefix_rest-rest.ensures (c.prefix_form.ensures ∙ ap form_of c.from.ensures)))) (prefix_last (reply a.sheet.now.bytes.now) _),
     )

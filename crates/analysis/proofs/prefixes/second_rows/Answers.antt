@@ -16,15 +16,12 @@ pub loop-k-init : goal.loop-k-init
 loop-k-init c = (omega arith, c.requires.5.1, refl, refl, omega arith)
 
 pub begins-requires : goal.begins-requires
-begins-requires c = let p = c.requires in (p.0.forms-laid, p.1, p.2, c.loop-k-test.true)
+begins-requires c = let p = c.requires in (p.1, p.2, c.loop-k-test.true)
 
 pub second_row-r-requires : goal.second_row-r-requires
 second_row-r-requires c =
     let p = c.requires in
     (p.0, p.1, p.2, c.loop-k-test.true, p.3, p.4, (omega (arith, c.loop-k.invariant.2, p.5.0), c.loop-k.invariant.1))
-
-pub overflow_add-k : goal.overflow_add-k
-overflow_add-k c = omega arith
 
 -- the count stays small: it is at most that of all rows
 pub overflow_add-v : goal.overflow_add-v
@@ -33,11 +30,8 @@ overflow_add-v c =
     let e = visits_turn (prefix_visits 0 (reply a.sheet.now.bytes.now)) (between a.word.now a.«from» a.at.end) c.loop-k.k c.loop-k.v _ c.loop-k-test.true c.loop-k.invariant.4 c.second_row-r.ensures.2 in
     omega (arith, e, second_few (reply a.sheet.now.bytes.now) (between a.word.now a.«from» a.at.end))
 
-pub loop-k-smaller-then-begins : goal.loop-k-smaller-then-begins
-loop-k-smaller-then-begins c = omega (arith, c.loop-k-test.true)
-
-pub loop-k-preserved-then-begins : goal.loop-k-preserved-then-begins
-loop-k-preserved-then-begins c =
+pub loop-k-preserved : goal.loop-k-preserved
+loop-k-preserved c =
     let a = c.args in (
       omega (arith, c.loop-k-test.true),
       c.second_row-r.ensures.1,
@@ -46,17 +40,14 @@ loop-k-preserved-then-begins c =
       visits_turn (prefix_visits 0 (reply a.sheet.now.bytes.now)) (between a.word.now a.«from» a.at.end) c.loop-k.k c.loop-k.v _ c.loop-k-test.true c.loop-k.invariant.4 c.second_row-r.ensures.2,
     )
 
-pub loop-k-smaller : goal.loop-k-smaller
-loop-k-smaller c = omega (arith, c.loop-k-test.true)
-
-pub loop-k-preserved : goal.loop-k-preserved
-loop-k-preserved c =
+pub loop-k-preserved-then-not-begins : goal.loop-k-preserved-then-not-begins
+loop-k-preserved-then-not-begins c =
     let a = c.args in (
       omega (arith, c.loop-k-test.true),
       c.loop-k.invariant.1,
       c.loop-k.invariant.2,
-      c.loop-k.invariant.3 ∙ form_pass a.word.now (each a.word.now a.sheet.now.bytes.now a.at.end a.first a.at.chain a.surface) (between a.word.now a.«from» a.at.end) c.loop-k.k all_forms (kept_of c.loop-k.out c.loop-k.f) c.loop-k-test.true (sym c.begins.ensures ∙ c.if-begins.false),
-      visits_pass (prefix_visits 0 (reply a.sheet.now.bytes.now)) (between a.word.now a.«from» a.at.end) c.loop-k.k c.loop-k.v c.loop-k-test.true c.loop-k.invariant.4 (sym c.begins.ensures ∙ c.if-begins.false),
+      c.loop-k.invariant.3 ∙ form_pass a.word.now (each a.word.now a.sheet.now.bytes.now a.at.end a.first a.at.chain a.surface) (between a.word.now a.«from» a.at.end) c.loop-k.k all_forms (kept_of c.loop-k.out c.loop-k.f) c.loop-k-test.true (sym c.begins.ensures ∙ c.if-not-begins.true),
+      visits_pass (prefix_visits 0 (reply a.sheet.now.bytes.now)) (between a.word.now a.«from» a.at.end) c.loop-k.k c.loop-k.v c.loop-k-test.true c.loop-k.invariant.4 (sym c.begins.ensures ∙ c.if-not-begins.true),
     )
 
 pub shape_of-out : goal.shape_of-out

@@ -24,6 +24,3 @@ invariant-loop-k l = (l.k ≤ all_forms) × (l.f ≤ list_limit + 1) × (length 
     × (plus_all l.word (kept_of l.initial.out l.initial.f) (over_forms (each l.word l.sheet.bytes.now l.at.end l.first l.at.chain l.surface) (between l.word l.from l.at.end) 0 all_forms)
     ≡ plus_all l.word (kept_of l.out l.f) (over_forms (each l.word l.sheet.bytes.now l.at.end l.first l.at.chain l.surface) (between l.word l.from l.at.end) l.k (all_forms - l.k)))
     × Counted (prefix_visits 0 (reply l.sheet.bytes.now)) (between l.word l.from l.at.end) l.k l.v
-
-abbrev pub decreases-loop-k : goal.decreases-loop-k
-decreases-loop-k l = all_forms - l.k

@@ -22,10 +22,9 @@ use Rattle.analysis.proofs.prefixes.with_stem.Goals.{After-with_root-f}
 
 pub with_root-f-requires : goal.with_root-f-requires
 with_root-f-requires c = (
-  c.requires.0.texts_laid,
   omega arith,
   c.requires.1,
-  c.requires.0.short,
+  c.requires.0,
   c.requires.2,
   omega arith,
   c.requires.3,

@@ -23,7 +23,7 @@ tested c =
 pub returns-then-not-is_supported : goal.returns-then-not-is_supported
 returns-then-not-is_supported c =
     let a = c.args in
-    (no-root (reply a.sheet.now.bytes.now) a.surface a.at.chain a.word.now a.at.end a.root a.prefixes _ (sym (tested (goal.at.returns-then-not-is_supported c).After-is_supported) ∙ c.if-not-is_supported.true), c.requires.8.1)
+    (no-root (reply a.sheet.now.bytes.now) a.surface a.at.chain a.word.now a.at.end a.root a.prefixes _ (sym (tested (goal.at.returns-then-not-is_supported c).After-is_supported) ∙ c.if-not-is_supported.true), c.requires.7.1)
 
 pub returns : goal.returns
 returns c =

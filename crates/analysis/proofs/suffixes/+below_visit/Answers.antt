@@ -3,8 +3,6 @@
 use Rattle.std.proofs.Common.{◌≡◌, ℕ, suc, ◌+◌, ◌-◌, ◌<◌, ◌≤◌, true, false, List, [], take, get_or, refl, sym, ap, ◌∙◌, arith}
 use native.Mathlib.Nat.{sub-zero}
 use Rattle.tables.specs.Tables.{affixes}
-use Rattle.tables.proofs.Facts.{affix_count}
-use Rattle.tables.proofs.Laid.{laid-asks, laid-row}
 use Rattle.strips.specs.Suffix.{rests_of}
 use Rattle.sheet.specs.Replies.{reply}
 use Rattle.ranking.specs.Lists.{plus_all}
@@ -20,14 +18,11 @@ use Rattle.analysis.proofs.Below.{is_none_else, left_are, plain_in, shared_in, p
 use Rattle.analysis.proofs.suffixes.+below_visit.Goals as goal
 use Rattle.analysis.proofs.suffixes.+below_visit.Goals.{below-After-suffix_rests-rests, visit-After-with_stem-stem}
 
-pub below-row-requires : goal.below-row-requires
-below-row-requires t c = laid-asks c.requires.0.texts_laid c.args.k (omega (arith, affix_count, c.requires.4))
-
 -- what the strip leaves
 rests_are : (t : ℕ) (c : below-After-suffix_rests-rests t) → c.suffix_rests-rests.result ≡ rests_of (take c.args.at.end c.args.word.now) (get_or affixes c.args.k [])
 rests_are t c =
     c.suffix_rests-rests.ensures
-    ∙ ap (rests_of (take c.args.at.end c.args.word.now)) (c.row.ensures ∙ laid-row c.requires.0.texts_laid c.args.k (omega (arith, affix_count, c.requires.4)))
+    ∙ ap (rests_of (take c.args.at.end c.args.word.now)) (c.affix.ensures ∙ ap (λ (k : ℕ). get_or affixes k []) c.from.ensures)
 
 pub below-returns-in_default : goal.below-returns-in_default
 below-returns-in_default t c =
@@ -192,8 +187,8 @@ visit-overflow_add-v t c =
       weighed-fits ask (4 - a.at.chain.count) a.at.rows a.at.times p (omega arith) c.requires.4 c.requires.6,
     )
 
-pub visit-loop-k-preserved-then-ends : goal.visit-loop-k-preserved-then-ends
-visit-loop-k-preserved-then-ends t c =
+pub visit-loop-k-preserved : goal.visit-loop-k-preserved
+visit-loop-k-preserved t c =
     let a = c.args in
     let l = c.loop-k in
     let p = take a.at.end a.word.now in
@@ -206,13 +201,13 @@ visit-loop-k-preserved-then-ends t c =
       turned (row_weighed (weighed (3 - a.at.chain.count) ask) a.at.times p) _ _ l.k a.at.rows _ c.loop-k-test.true l.invariant.4 c.below-r.ensures.2,
     )
 
-pub visit-loop-k-preserved : goal.visit-loop-k-preserved
-visit-loop-k-preserved t c =
+pub visit-loop-k-preserved-then-not-ends : goal.visit-loop-k-preserved-then-not-ends
+visit-loop-k-preserved-then-not-ends t c =
     let a = c.args in
     let l = c.loop-k in
     let p = take a.at.end a.word.now in
     let ask = reply a.sheet.now.bytes.now in
-    let n = sym c.ends.ensures ∙ c.if-ends.false in (
+    let n = sym c.ends.ensures ∙ c.if-not-ends.true in (
       omega (arith, c.loop-k-test.true),
       l.invariant.1,
       l.invariant.2,

@@ -21,6 +21,3 @@ invariant-visit-loop-k l =
     ≡ plus_all l.word (kept_of l.out l.f) (rows_walk (piece_walk (3 - l.at.chain.count) (reply l.sheet.bytes.now) l.surface) (reply l.sheet.bytes.now) l.at.chain (take l.at.end l.word) l.k (l.rows - l.k)))
     × (weighed (4 - l.at.chain.count) (reply l.sheet.bytes.now) l.rows l.at.times (take l.at.end l.word)
     ≡ l.v + total_rows (row_weighed (weighed (3 - l.at.chain.count) (reply l.sheet.bytes.now)) l.at.times (take l.at.end l.word)) l.k (l.rows - l.k))
-
-abbrev pub decreases-visit-loop-k : goal.decreases-visit-loop-k
-decreases-visit-loop-k l = l.rows - l.k

@@ -1,27 +1,22 @@
 -- `analysis::suffixes::kind_at` meets its contract: the kind line's kind, else the group's. Assumes nothing.
-use native.Mathlib.Omega.{arith}
 use mathlib.Core.Path.{◌≡◌, sym, ap, ◌∙◌}
 use mathlib.Core.List.{[]}
 use lib.ListN.{get_or}
 use Rattle.tables.specs.Tables.{affixes}
-use Rattle.tables.proofs.Facts.{affix_count}
-use Rattle.tables.proofs.Laid.{laid-asks, laid-row}
 use Rattle.lookup.specs.Answers.{kind_told, kind_for}
 use Rattle.lookup.specs.declared.answers.SheetKind.{SheetKind}
 use Rattle.sheet.specs.Replies.{reply}
 use Rattle.paths.specs.Readings.{overridden, group_kind}
+use Prim.Native.Nat.{ℕ}
 use Rattle.analysis.proofs.suffixes.kind_at.Goals as goal
 use Rattle.analysis.proofs.suffixes.kind_at.Goals.{After-kind_of-listed}
-
-pub row-requires : goal.row-requires
-row-requires c = laid-asks c.requires.0 c.args.k (omega (arith, affix_count, c.requires.1))
 
 -- what the sheet says of the row's text
 asked : (c : After-kind_of-listed) → let a = c.args in
     c.kind_of-listed.result ≡ kind_told (reply a.sheet.now.bytes.now 0x6B (get_or affixes a.k []))
 unfolding kind_for
 asked c =
-    c.kind_of-listed.ensures ∙ ap (kind_for c.args.sheet.now.bytes.now) (c.row.ensures ∙ laid-row c.requires.0 c.args.k (omega (arith, affix_count, c.requires.1)))
+    c.kind_of-listed.ensures ∙ ap (kind_for c.args.sheet.now.bytes.now) (c.affix.ensures ∙ ap (λ (k : ℕ). get_or affixes k []) c.from.ensures)
 
 pub returns-in-Unlisted : goal.returns-in-Unlisted
 returns-in-Unlisted c =

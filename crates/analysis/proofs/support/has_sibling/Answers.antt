@@ -6,12 +6,10 @@ use mathlib.Core.List.{List, [], ◌++◌}
 use lib.ListN.{length, get_or}
 use Rattle.tables.specs.Tables.{affixes}
 use Rattle.tables.proofs.Facts.{affix_count}
-use Rattle.tables.proofs.Laid.{laid-asks, laid-row}
 use Rattle.sheet.specs.Replies.{reply}
 use Rattle.paths.specs.Support.{is_known}
 use Rattle.analysis.proofs.Siblings.{known_here, known_next, known_end}
 use Rattle.analysis.proofs.support.has_sibling.Goals as goal
-use Rattle.analysis.proofs.support.has_sibling.Lts.View.{up-In-loop-k}
 use Rattle.analysis.proofs.support.has_sibling.Goals.{After-is_known, In-loop-k}
 
 pub loop-k-init : goal.loop-k-init
@@ -21,29 +19,20 @@ loop-k-init c = (omega arith, refl)
 inside : (c : In-loop-k) → c.loop-k.k < length affixes
 inside c = omega (arith, affix_count, c.loop-k-test.true)
 
-pub row-text-requires : goal.row-text-requires
-row-text-requires c = laid-asks c.requires.1 _ (inside (goal.at.row-text-requires c).In-loop-k)
-
 pub is_known-requires : goal.is_known-requires
-is_known-requires c = c.requires.0
+is_known-requires c = c.requires
 
 -- what is asked of the row
 asked : (c : After-is_known) → let a = c.args in
     c.is_known.result ≡ is_known (reply a.sheet.now.bytes.now) (a.piece.now ++ get_or affixes c.loop-k.k [])
 asked c =
     c.is_known.ensures
-    ∙ ap (λ (t : List ℕ). is_known (reply c.args.sheet.now.bytes.now) (c.args.piece.now ++ t)) (c.row-text.ensures ∙ laid-row c.requires.1 c.loop-k.k (inside (up-In-loop-k _ _ _ _ _ c.before.before.before)))
+    ∙ ap (λ (t : List ℕ). is_known (reply c.args.sheet.now.bytes.now) (c.args.piece.now ++ t)) c.affix.ensures
 
 pub returns-then-is_known : goal.returns-then-is_known
 returns-then-is_known c =
     let a = c.args in
     sym (c.loop-k.invariant.1 ∙ known_here (reply a.sheet.now.bytes.now) a.piece.now affixes c.loop-k.k (inside (goal.at.returns-then-is_known c).In-loop-k) (sym (asked (goal.at.returns-then-is_known c).After-is_known) ∙ c.if-is_known.true))
-
-pub overflow_add-k : goal.overflow_add-k
-overflow_add-k c = omega arith
-
-pub loop-k-smaller : goal.loop-k-smaller
-loop-k-smaller c = omega arith
 
 pub loop-k-preserved : goal.loop-k-preserved
 loop-k-preserved c =

@@ -1,5 +1,5 @@
 -- `analysis::support::has_sibling` meets its contract: some text gives a known name where one of those to come does. Assumes nothing.
-use Prim.Native.Nat.{◌-◌, ◌≤◌}
+use Prim.Native.Nat.{◌≤◌}
 use mathlib.Core.Path.{◌≡◌}
 use lib.ListN.{drop}
 use Rattle.paths.specs.Chains.{all_rows}
@@ -10,6 +10,3 @@ use Rattle.analysis.proofs.support.has_sibling.Given as goal
 
 abbrev pub invariant-loop-k : goal.invariant-loop-k
 invariant-loop-k l = (l.k ≤ all_rows) × (known_with (reply l.sheet.bytes.now) l.piece affixes ≡ known_with (reply l.sheet.bytes.now) l.piece (drop l.k affixes))
-
-abbrev pub decreases-loop-k : goal.decreases-loop-k
-decreases-loop-k l = all_rows - l.k

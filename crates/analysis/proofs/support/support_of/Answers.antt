@@ -24,7 +24,7 @@ pub returns-then-range : goal.returns-then-range
 returns-then-range c =
     let r = c.args.root.now in
     let e : reply c.args.sheet.now.bytes.now 0x77 r ≡ Reply.unknown = ap (reply c.args.sheet.now.bytes.now 0x77) (sym (append-nil r)) ∙ unasked (goal.at.returns-then-range c).Then-range [] in
-    same_support (ap (λ (x : Reply). (letters_told x).word) (sym e)) (ap (λ (x : Reply). (letters_told x).head) (sym e)) (sym (none_known (reply c.args.sheet.now.bytes.now) r _ (unasked (goal.at.returns-then-range c).Then-range))) c.requires.1
+    same_support (ap (λ (x : Reply). (letters_told x).word) (sym e)) (ap (λ (x : Reply). (letters_told x).head) (sym e)) (sym (none_known (reply c.args.sheet.now.bytes.now) r _ (unasked (goal.at.returns-then-range c).Then-range))) c.requires
 
 -- the letters are those of the root
 own : (c : After-letters_in-letters) → let a = c.args in
@@ -42,10 +42,10 @@ returns-then-is_alone c =
     same_support (ap (λ (x : Letters). x.word) e) (ap (λ (x : Letters). x.head) e)
     (sym (alone_known (reply c.args.sheet.now.bytes.now) r
     (λ q n. alone_begun c.args.sheet.now.bytes.now 0x77 r c.args.sheet.now.starts.now c.args.sheet.now.indexed c.range_of-range.result c.range_of-range.ensures few [] q (λ z. omega (arith, n, z)) some)))
-    c.requires.1
+    c.requires
 
 pub returns : goal.returns
 unfolding letters_for
 returns c =
     let e = c.letters_in-letters.ensures ∙ ap (letters_for c.args.sheet.now.bytes.now) (append-nil c.args.root.now) in
-    same_support (ap (λ (x : Letters). x.word) e) (ap (λ (x : Letters). x.head) e) c.has_sibling-sibling.ensures c.requires.1
+    same_support (ap (λ (x : Letters). x.word) e) (ap (λ (x : Letters). x.head) e) c.has_sibling-sibling.ensures c.requires

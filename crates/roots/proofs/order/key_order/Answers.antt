@@ -1,30 +1,22 @@
 -- `order::key_order` meets its contract, key by key. Assumes nothing.
-use mathlib.Core.Path.{◌≡◌, sym, ◌∙◌}
+use Rattle.std.proofs.Common.{rules}
+use mathlib.Core.Path.{◌≡◌, ◌∙◌}
 use Rattle.runs.specs.Runs.{cmp}
 use Rattle.decomposition.specs.Parts.{root_text}
-use Rattle.roots.specs.Rank.{key_order}
-use Rattle.roots.proofs.Alternatives.{decides, passes}
+use Rattle.roots.specs.Rank.{cmp_texts, prefix_texts, suffix_texts, then_by, key_order}
+use Rattle.roots.proofs.Alternatives.{then_is, then_later}
 use Rattle.roots.proofs.order.key_order.Goals as goal
-use Rattle.roots.proofs.order.key_order.Goals.{After-compare-root}
-
--- the roots compared
-compared : (c : After-compare-root) →
-    let a = c.args in
-    c.compare-root.result ≡ cmp (root_text a.word.now a.a) (root_text a.word.now a.b)
-compared c = c.compare-root.ensures ∙ cc (c.root_of-2.ensures, c.root_of.ensures)
-
-pub returns-then-not-is_equal : goal.returns-then-not-is_equal
-unfolding key_order
-returns-then-not-is_equal c = decides _ _ _ (compared (goal.at.returns-then-not-is_equal c).After-compare-root) (sym c.is_equal.ensures ∙ c.if-not-is_equal.true)
-
-pub returns-then-not-is_equal-2 : goal.returns-then-not-is_equal-2
-unfolding key_order
-returns-then-not-is_equal-2 c =
-    passes _ _ _ _ (compared (goal.at.returns-then-not-is_equal-2 c).After-compare-root) (sym c.is_equal.ensures ∙ c.if-not-is_equal.false)
-    (decides _ _ _ c.prefix_order-prefix.ensures (sym c.is_equal-2.ensures ∙ c.if-not-is_equal-2.true))
 
 pub returns : goal.returns
 unfolding key_order
 returns c =
-    passes _ _ _ _ (compared (goal.at.returns c).After-compare-root) (sym c.is_equal.ensures ∙ c.if-not-is_equal.false)
-    (passes _ _ _ _ c.prefix_order-prefix.ensures (sym c.is_equal-2.ensures ∙ c.if-not-is_equal-2.false) c.suffix_order.ensures)
+    let a = c.args.a in
+    let b = c.args.b in
+    let w = c.args.word.now in
+    let r = cmp (root_text w a) (root_text w b) in
+    let p = cmp_texts (prefix_texts a) (prefix_texts b) in
+    let s = cmp_texts (suffix_texts a) (suffix_texts b) in
+    let root : c.compare-root.result ≡ r = c.compare-root.ensures ∙ cc (c.root_of-2.ensures, c.root_of.ensures) in
+    let t : c.then_with.result ≡ then_by r p = then_is _ _ _ _ root c.then_with.ensures (λ e. search rules) in
+    let u : c.then_with-2.result ≡ then_by (then_by r p) s = then_is _ _ _ _ t c.then_with-2.ensures (λ e. search rules) in
+    u ∙ then_later r p s
