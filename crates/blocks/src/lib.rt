@@ -1,97 +1,55 @@
 // The oracle's file of cases (oracle/README.md, "The block format"), read case by case. The programs that replay its answers use it.
 #![tactic(auto)]
 
-ghost use Rattle.std.specs.Prelude.{◌≡◌, ◌≤◌, ◌<◌, length};
+ghost use Rattle.std.specs.Prelude.{◌≡◌, ◌≤◌, length, MatchOption};
+ghost use Rattle.blocks.specs.Cases.{Behind, CutFrom};
 
-// A number, and the place after the byte that ends it.
+// A case, and what stands behind it.
 #[derive(Clone, Copy)]
-struct Number {
-    value: usize,
-    next: usize,
+pub struct Case<'s> {
+    pub word: &'s [u8],
+    pub sheet: &'s [u8],
+    pub rest: &'s [u8],
 }
 
-// A case: the word stands from `word` to `sheet`, the sheet from there to `end`, and the next case begins at `next`.
-#[derive(Clone, Copy)]
-pub struct Case {
-    pub word: usize,
-    pub sheet: usize,
-    pub end: usize,
-    pub next: usize,
-}
-
-// The decimal number that begins at `at`; it stops growing past 100,000.
-fn decimal_at(s: &[u8], at: usize) -> Number
-    requires { at ≤ length s.now }
-    ensures { (result.value ≤ 2000000) × (at ≤ result.next) × (result.next ≤ length s.now) × (at < length s.now → at < result.next) }
+// The decimal number at the front of s, and what stands behind the byte that ends it; it stops growing past 100,000.
+fn decimal(s: &[u8]) -> (usize, &[u8])
+    ensures { (result.0 ≤ 2000000) × Behind s.now result.1.now }
 {
     let mut value: usize = 0;
-    let mut i = at;
-    while i < s.len() {
-        let b = s[i];
-        if b < b'0' {
-            return Number { value, next: i + 1 };
+    for k in 0..s.len() {
+        let b = s[k];
+        if !b.is_ascii_digit() || 100000 < value {
+            return (value, &s[k + 1..]);
         }
-        if b'9' < b {
-            return Number { value, next: i + 1 };
-        }
-        if 100000 < value {
-            return Number { value, next: i + 1 };
-        }
-        value = value * 10 + digit(b);
-        i += 1;
+        value = value * 10 + (b - b'0') as usize;
     }
-    Number { value, next: i }
+    (value, &s[s.len()..])
 }
 
-fn digit(b: u8) -> usize
-    ensures { result ≤ 255 }
+// The first case: two counts, the word, the sheet, and a byte 0A. An empty one before nothing where a count is too large; none where
+// nothing is left.
+pub fn first_case(s: &[u8]) -> Option<Case<'_>>
+    ensures { MatchOption result (length s.now ≡ 0) (λ c. CutFrom s.now c.word.now c.sheet.now c.rest.now) }
 {
-    if b < b'0' {
-        return 0;
+    if s.is_empty() {
+        return None;
     }
-    (b - b'0') as usize
-}
-
-// The last case: nothing, up to the end.
-fn last(n: usize) -> Case
-    ensures { (result.word ≡ n) × (result.sheet ≡ n) × (result.end ≡ n) × (result.next ≡ n) }
-{
-    Case {
-        word: n,
-        sheet: n,
-        end: n,
-        next: n,
+    let (word_bytes, rest) = decimal(s);
+    let (sheet_bytes, rest) = decimal(rest);
+    if rest.len() < word_bytes + sheet_bytes {
+        let none = &s[s.len()..];
+        return Some(Case {
+            word: none,
+            sheet: none,
+            rest: none,
+        });
     }
-}
-
-// The case at `at`: two counts, the word, the sheet, and a byte 0A. An empty one at the end where a count is too large.
-pub fn case_at(s: &[u8], at: usize) -> Case
-    requires { at < length s.now }
-    ensures { (result.word ≤ result.sheet) × (result.sheet ≤ result.end) × (result.end ≤ length s.now) × (at < result.next) × (result.next ≤ length s.now) }
-{
-    let first = decimal_at(s, at);
-    let second = decimal_at(s, first.next);
-    let word = second.next;
-    if s.len() - word < first.value {
-        return last(s.len());
-    }
-    let sheet = word + first.value;
-    if s.len() - sheet < second.value {
-        return last(s.len());
-    }
-    let end = sheet + second.value;
-    if end < s.len() {
-        return Case {
-            word,
-            sheet,
-            end,
-            next: end + 1,
-        };
-    }
-    Case {
+    let (word, rest) = rest.split_at(word_bytes);
+    let (sheet, rest) = rest.split_at(sheet_bytes);
+    Some(Case {
         word,
         sheet,
-        end,
-        next: end,
-    }
+        rest: &rest[rest.len().min(1)..],
+    })
 }

@@ -4,13 +4,14 @@ use Prim.Native.Nat.{ℕ, zero, suc, ◌+◌, ◌≤◌}
 use native.Mathlib.Omega.{arith}
 use native.Mathlib.Nat.{zero-add}
 use mathlib.Core.Path.{◌≡◌, refl, sym, ap, subst, ◌∙◌}
-use mathlib.Core.Logic.{◌⊎◌, inl, inr, ⊎_elim}
+use mathlib.Core.Logic.{⊎_elim}
 use mathlib.Core.Bool.{Bool, true, false, ◌&&◌, ◌||◌}
 use mathlib.Core.List.Memᴰ
 use mathlib.Core.List.{List, [], ◌∷◌, ◌++◌, Memᴰ}
 use lib.ListN.{length, length-append}
 use lib.Dec.{leb, ltb}
 use borrow.Author.Tests.{leb-true, ltb-true}
+use Rattle.std.proofs.lemmas.Bool.{or_cases, both_ways}
 use Rattle.runs.specs.Runs.{pick}
 use Rattle.runs.proofs.Begins.{and_left, and_right}
 use Rattle.text.specs.Utf8.{Range, within, tail, utf8_char, FitsRow, Octets, none, more, Owed, owes, misfit, opened, after, run, whole, is_utf8}
@@ -18,12 +19,8 @@ use Rattle.text.specs.Characters.{opens, chars}
 use Rattle.text.proofs.Ranges.{inside, below, above}
 
 -- a contradiction of two truths
-no : {P : Type 0} {b : Bool} → b ≡ false → b ≡ true → P
-no e f = let z : ◌≡◌ {A = ℕ} 0 1 = cc in absurd (omega arith)
-
-either : (a b : Bool) → (a || b) ≡ true → (a ≡ true) ⊎ (b ≡ true)
-either true b e = inl refl
-either false b e = inr e
+pub no : {P : Type 0} {b : Bool} → b ≡ false → b ≡ true → P
+no e f = absurd (both_ways _ e f)
 
 in_range : (r : Range) (b : ℕ) → within r b ≡ true → (r.low ≤ b) × (b ≤ r.high)
 unfolding within
@@ -38,7 +35,7 @@ unfolding apart
 apart_out r q b e w =
     let i = in_range q b w in
     ⊎_elim (λ h. let k = ltb-true r.high q.low h in above r b (omega arith)) (λ h. let k = ltb-true q.high r.low h in below r b (omega arith))
-    (either (ltb r.high q.low) (ltb q.high r.low) e)
+    (or_cases (ltb r.high q.low) (ltb q.high r.low) e)
 
 -- the row begins in a range apart from r; the later bytes of a row are tails, and its first is none
 starts_apart : Range → List Range → Bool
@@ -156,7 +153,7 @@ complete (more row c rest s n e m f o) =
     (ap (λ (x : List ℕ). whole (run (owes []) x)) e ∙ ap whole (one-passed row c rest m f) ∙ h.0, ap chars e ∙ one-counted row c rest m f ∙ ap suc h.1)
 
 -- what is owed once nothing fits stays so
-lost : (s : List ℕ) → run misfit s ≡ misfit
+pub lost : (s : List ℕ) → run misfit s ≡ misfit
 unfolding run after
 lost [] = refl
 lost (b ∷ s) = lost s

@@ -9,12 +9,14 @@ use mathlib.Core.Bool.{Bool, true, false, ◌||◌}
 use mathlib.Core.List.Memᴰ
 use mathlib.Core.List.{List, [], ◌∷◌, ◌++◌, append_assoc, Memᴰ}
 use lib.ListN.{length, length-append}
+use Rattle.std.proofs.lemmas.Bool.{or_left, or_right}
 use Rattle.runs.specs.Runs.{pick}
 use Rattle.tokenizer.specs.Scalars.{Character, bytes, scalar}
 use Rattle.tokenizer.specs.Parting.{parts, devanagari}
 use Rattle.tokenizer.specs.Tokens.{Each, Span, span}
 use Rattle.tokenizer.specs.Scanned.{kept, scan}
-use Rattle.tokenizer.proofs.Parsed.{told, no, has-bytes}
+use Rattle.text.proofs.Grammar.{no}
+use Rattle.tokenizer.proofs.Parsed.{told, has-bytes}
 
 -- how many bytes characters have
 abbrev pub total : List (List ℕ) → ℕ
@@ -164,14 +166,6 @@ to_end a e vs r =
     ⊎_elim (λ q. subst (λ (x : List (List ℕ)). Memᴰ (span a e) (scan a e true (told x))) (sym q) (Memᴰ.head refl))
     (λ q. subst (λ (x : List (List ℕ)). Memᴰ (span a e) (scan a e true (told x))) (sym q.2) (rw q.3 (Memᴰ.head refl))) r
 
-or-held : (held d : Bool) → held ≡ true → (held || d) ≡ true
-or-held true d e = refl
-or-held false d e = no refl e
-
-or_deva : (held d : Bool) → d ≡ true → (held || d) ≡ true
-or_deva true d e = refl
-or_deva false d e = e
-
 reached : (ms vs : List (List ℕ)) (a e f : ℕ) (held : Bool) → Each Plain ms → RightEdge vs → f ≡ e + total ms → (held ≡ true) ⊎ Holds ms
     → Memᴰ (span a f) (scan a e held (told (ms ++ vs)))
 unfolding scan told
@@ -184,7 +178,7 @@ reached [] vs a e f held p r g h =
 reached (m ∷ ms) vs a e f held p r g h =
     let q = total-cons m ms in
     let k : ((held || devanagari (scalar m)) ≡ true) ⊎ Holds ms =
-    ⊎_elim (λ x. inl (or-held held _ x)) (λ x. ⊎_elim (λ i. inl (or_deva held _ (subst (λ (y : List ℕ). devanagari (scalar y) ≡ true) i x.2))) (λ j. inr (x.0, j, x.2)) (Memᴰ.cases_cons x.1)) h in
+    ⊎_elim (λ x. inl (or_left held _ x)) (λ x. ⊎_elim (λ i. inl (or_right held _ (subst (λ (y : List ℕ). devanagari (scalar y) ≡ true) i x.2))) (λ j. inr (x.0, j, x.2)) (Memᴰ.cases_cons x.1)) h in
     rw p.0 (reached ms vs a (e + length m) f (held || devanagari (scalar m)) p.1 r (omega arith) k)
 
 passed_by : (us rest : List (List ℕ)) (p : List ℕ) (t : Span) (a e f : ℕ) (held : Bool) → parts (scalar p) ≡ true → f ≡ e + total (us ++ (p ∷ []))

@@ -10,7 +10,8 @@ use lib.ListN.{length}
 use Rattle.tokenizer.specs.Scalars.{Character, bytes, scalar}
 use Rattle.tokenizer.specs.Parting.{parts}
 use Rattle.tokenizer.specs.Tokens.{Each, Run, Token}
-use Rattle.tokenizer.proofs.Parsed.{no, has-bytes, one_way}
+use Rattle.text.proofs.Grammar.{no}
+use Rattle.tokenizer.proofs.Parsed.{has-bytes, one_way}
 use Rattle.tokenizer.proofs.Edges.{total, bytes-append, total-append, total-cons, total_nil, each_append, each_left, each_right, Plain, LeftEdge, RightEdge, Edged}
 
 heads : {x y : List ℕ} {xs ys : List (List ℕ)} → ◌≡◌ {A = List (List ℕ)} (x ∷ xs) (y ∷ ys) → (x ≡ y) × (xs ≡ ys)

@@ -20,8 +20,6 @@ use Rattle.text.specs.Utf8.{from_to, within, tail, utf8_char, Owed, owes, misfit
 use Rattle.text.proofs.Ranges.{inside, below}
 use Rattle.tokenizer.specs.Scalars.{scalar}
 use Rattle.tokenizer.specs.Parting.{parts, among, white_space, punctuation, devanagari}
-use Rattle.tokenizer.specs.Marks.{ascii}
-use Rattle.tokenizer.proofs.Parted.{ascii_marks}
 use Rattle.tokenizer.specs.Scanned.{fits, width_by, width}
 use Rattle.tokenizer.specs.Looked.{sized, sight, seen}
 
@@ -134,8 +132,8 @@ look_three (a ∷ b ∷ c ∷ s) p h e i j k l m =
     let d : devanagari (number_of b c) ≡ true = inside (from_to 0x0900 0x097F) (number_of b c) (omega arith) (omega arith) in
     rw (e, w, m, danda b c i j k l, d)
 
-pub look_ascii : (s : List ℕ) (p : Bool) → 1 ≤ length s → get_or s 0 0 < 0x80 → p ≡ among ascii (get_or s 0 0) → Some (sight 1 p false) ≡ seen s
+pub look_ascii : (s : List ℕ) (p : Bool) → 1 ≤ length s → get_or s 0 0 < 0x80 → p ≡ parts (get_or s 0 0) → Some (sight 1 p false) ≡ seen s
 unfolding seen scalar devanagari width opened utf8_char fits
 look_ascii [] p h e f = absurd (omega arith)
 look_ascii (a ∷ s) p h e f =
-    rw (inside (from_to 0x00 0x7F) a (omega arith) (omega arith), below (from_to 0x0900 0x097F) a (omega arith), f, ascii_marks a e)
+    rw (inside (from_to 0x00 0x7F) a (omega arith) (omega arith), below (from_to 0x0900 0x097F) a (omega arith), f)

@@ -13,7 +13,8 @@ use Rattle.tokenizer.specs.Scalars.{Character, scalar}
 use Rattle.tokenizer.specs.Parting.{parts, devanagari}
 use Rattle.tokenizer.specs.Tokens.{Each, Span, InOrder}
 use Rattle.tokenizer.specs.Scanned.{kept, scan}
-use Rattle.tokenizer.proofs.Parsed.{told, no, has-bytes, three}
+use Rattle.text.proofs.Grammar.{no}
+use Rattle.tokenizer.proofs.Parsed.{told, has-bytes, three}
 use Rattle.tokenizer.proofs.Edges.{total, total-cons, total_nil}
 
 -- from byte lo on, up to byte hi: three bytes or more each, and one more before the next

@@ -3,7 +3,7 @@ use Prim.Native.Nat.{ℕ, suc, ◌+◌, ◌-◌, ◌*◌, ◌≤◌}
 use native.Mathlib.Omega.{arith}
 use mathlib.Core.Path.{◌≡◌, refl, sym, ap, subst, ◌∙◌}
 use mathlib.Core.Logic.{⊎_elim}
-use mathlib.Core.Bool.{Bool, true, false, ◌&&◌}
+use mathlib.Core.Bool.{Bool, true, ◌&&◌}
 use mathlib.Core.List.Memᴰ
 use mathlib.Core.List.{List, [], ◌∷◌, ◌++◌, Memᴰ}
 use lib.ListN.{length, take, drop, length-append}
@@ -12,17 +12,13 @@ use lib.Dec.{leb}
 use borrow.Author.Tests.{leb-true}
 use Rattle.runs.proofs.Begins.{and_left, and_right}
 use Rattle.text.specs.Utf8.{Range, from_to, within, utf8_char, FitsRow, Octets, none, more, is_utf8}
-use Rattle.text.proofs.Grammar.{chooses, no_empty_row, sound}
+use Rattle.text.proofs.Grammar.{no, chooses, no_empty_row, sound}
 use Rattle.text.proofs.Ranges.{below}
 use Rattle.tokenizer.specs.Scalars.{Character, bytes, scalar}
 use Rattle.tokenizer.specs.Parting.{parts, devanagari}
 use Rattle.tokenizer.specs.Tokens.{Each}
 use Rattle.tokenizer.specs.Scanned.{fits, width, Chars, finished, char, chars_from}
 use Rattle.tokenizer.proofs.Turns.{chars-one}
-
--- a contradiction of two truths
-pub no : {P : Type 0} {b : Bool} → b ≡ false → b ≡ true → P
-no e f = let z : ◌≡◌ {A = ℕ} 0 1 = cc in absurd (omega arith)
 
 -- the bytes of a character fit its row, whatever follows
 row_fits : (rs : List Range) (c x : List ℕ) → FitsRow rs c → (fits rs (c ++ x) ≡ true) × (length rs ≡ length c)

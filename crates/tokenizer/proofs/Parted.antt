@@ -1,16 +1,17 @@
 -- Which characters part, stretch by stretch: in each stretch the two lists of ranges are the few ranges that the code names, by computed
 -- tests. The proofs of parting.rt and `look` cite these. Assumes nothing.
-use Prim.Native.Nat.{ℕ, zero, suc, ◌+◌, ◌-◌, ◌≤◌, ◌<◌}
+use Prim.Native.Nat.{ℕ, zero, suc, ◌+◌, ◌-◌, ◌/◌, ◌^◌, ◌≤◌, ◌<◌}
 use native.Mathlib.Omega.{arith}
 use mathlib.Core.Path.{◌≡◌, refl, sym, ◌∙◌}
 use mathlib.Core.Logic.{⊎_elim}
 use mathlib.Core.Bool.{Bool, true, false, ◌&&◌, ◌||◌}
 use mathlib.Core.List.{List, [], ◌∷◌}
-use lib.Dec.{ltb, leb}
+use lib.Dec.{ltb, leb, eqb}
+use lib.Bits.{bit_and}
 use borrow.Author.Tests.{leb-true, le-ltb}
-use Rattle.std.proofs.lemmas.Bool.{and_parts, or_cases, cases_eq}
+use Rattle.std.proofs.lemmas.Bool.{agree_below_at, and_parts, or_cases, cases_eq}
 use Rattle.text.specs.Utf8.{Range, within}
-use Rattle.tokenizer.specs.Marks.{ascii, general}
+use Rattle.tokenizer.specs.Marks.{general}
 use Rattle.tokenizer.specs.Parting.{one, among, white_space, punctuation, parts}
 
 -- each of n numbers from a on passes
@@ -60,9 +61,17 @@ module _ (lo hi : ℕ) (rs : List Range) (w : covered white_space (inner lo hi r
       by false true e f = sym e ∙ covered_at rs parts q c f
       by false false e f = refl
 
-pub ascii_marks : (c : ℕ) → c < 0x80 → parts c ≡ among ascii c
+-- a bit for each of the first 64 characters
+pub low_mask : (b : ℕ) → b < 64 → eqb (bit_and (0x8C00F38700003E00 / (2 ^ b)) 1) 1 ≡ parts b
 unfolding parts among within white_space punctuation
-ascii_marks c h = stretch 0 0x7F ascii refl refl refl c (omega arith) (omega arith)
+low_mask b h = agree_below_at (λ i. eqb (bit_and (0x8C00F38700003E00 / (2 ^ i)) 1) 1) parts 64 b refl h
+
+abbrev pub bracket : List Range
+bracket = one 0x5B ∷ one 0x5D ∷ one 0x7B ∷ one 0x7D ∷ []
+
+pub brackets : (b : ℕ) → 64 ≤ b → b < 0x80 → parts b ≡ among bracket b
+unfolding parts among within white_space punctuation
+brackets b h k = stretch 0x40 0x7F bracket refl refl refl b h (omega arith)
 
 pub general_marks : (c : ℕ) → 0x2000 ≤ c → c < 0x2040 → parts c ≡ among general c
 unfolding parts among within white_space punctuation

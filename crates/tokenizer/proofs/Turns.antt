@@ -14,6 +14,7 @@ use Rattle.std.specs.declared.option.Option.TheVariants.{Some, None}
 use lib.Dec.{leb}
 use Rattle.runs.specs.Runs.{pick}
 use Rattle.text.specs.Utf8.{Range, within, utf8_char, Owed, owes, misfit, opened, after, run, whole, is_utf8}
+use Rattle.text.proofs.Grammar.{no, lost}
 use Rattle.tokenizer.specs.Scalars.{scalar}
 use Rattle.tokenizer.specs.Parting.{parts, devanagari}
 use Rattle.tokenizer.specs.Tokens.{Span, span}
@@ -26,22 +27,17 @@ use Rattle.tokenizer.specs.Stored.{put, stored, counted, Ended}
 fits-run : (rs : List Range) (s : List ℕ) → fits rs s ≡ true → run (owes rs) s ≡ run (owes []) (drop (length rs) s)
 unfolding fits run after
 fits-run [] s e = refl
-fits-run (r ∷ rs) [] e = let z : ◌≡◌ {A = ℕ} 0 1 = cc in absurd (omega arith)
+fits-run (r ∷ rs) [] e = no refl e
 fits-run (r ∷ rs) (b ∷ s) e = by (within r b) e (fits-run rs s)
   where
     by : (x : Bool) → (x && fits rs s) ≡ true → (fits rs s ≡ true → run (owes rs) s ≡ run (owes []) (drop (length rs) s))
         → run (pick x (owes rs) misfit) s ≡ run (owes []) (drop (length rs) s)
     by true e k = k e
-    by false e k = let z : ◌≡◌ {A = ℕ} 0 1 = cc in absurd (omega arith)
-
-lost : (s : List ℕ) → run misfit s ≡ misfit
-unfolding run after
-lost [] = refl
-lost (b ∷ s) = lost s
+    by false e k = no refl e
 
 no_fit : (rs : List Range) (s : List ℕ) → fits rs s ≡ false → whole (run (owes rs) s) ≡ false
 unfolding fits run after
-no_fit [] s e = let z : ◌≡◌ {A = ℕ} 0 1 = cc in absurd (omega arith)
+no_fit [] s e = no e refl
 no_fit (r ∷ rs) [] e = refl
 no_fit (r ∷ rs) (b ∷ s) e = by (within r b) e (no_fit rs s)
   where

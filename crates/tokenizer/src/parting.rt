@@ -1,35 +1,36 @@
 // Which characters part words, and which make a run a word's, by their numbers.
 ghost use Rattle.std.specs.Prelude.{◌≡◌, ◌≤◌, ◌<◌};
 ghost use Rattle.tokenizer.specs.Parting.{parts, among, devanagari};
-ghost use Rattle.tokenizer.specs.Marks.{ascii, general};
+ghost use Rattle.tokenizer.specs.Marks.{general};
+
+// A bit for each character below U+0040 that parts. A test is then one shift: most characters of one byte are spaces and letters, and a
+// chain of comparisons takes longer.
+const LOW: u64 = 0x1F << b'\t'
+    | 1 << b' '
+    | 1 << b'!'
+    | 1 << b'"'
+    | 1 << b'\''
+    | 1 << b'('
+    | 1 << b')'
+    | 1 << b','
+    | 1 << b'-'
+    | 1 << b'.'
+    | 1 << b'/'
+    | 1 << b':'
+    | 1 << b';'
+    | 1 << b'?';
 
 // Whether the character of one byte b parts.
-#[tactic(auto, unfolding(crate::specs::Parting::among, text::specs::Utf8::within))]
+#[tactic(auto, using(crate::proofs::Parted::low_mask, crate::proofs::Parted::brackets), unfolding(crate::specs::Parting::among, text::specs::Utf8::within))]
 pub(crate) fn ascii_parts(b: u8) -> bool
     requires { b < 0x80 }
-    ensures { result ≡ among ascii b }
+    ensures { result ≡ parts b }
 {
-    matches!(
-        b,
-        b'\t'..=b'\r'
-            | b' '
-            | b'!'
-            | b'"'
-            | b'\''
-            | b'('
-            | b')'
-            | b','
-            | b'-'
-            | b'.'
-            | b'/'
-            | b':'
-            | b';'
-            | b'?'
-            | b'['
-            | b']'
-            | b'{'
-            | b'}'
-    )
+    if b < 64 {
+        (LOW >> b) & 1 == 1
+    } else {
+        matches!(b, b'[' | b']' | b'{' | b'}')
+    }
 }
 
 // The same from U+2000 to U+203F.
@@ -55,7 +56,7 @@ fn general_parts(c: u32) -> bool
 }
 
 // Whether the character with the number c parts.
-#[tactic(auto, using(crate::proofs::Parted::high_marks, crate::proofs::Parted::low_marks, crate::proofs::Parted::general_marks, crate::proofs::Parted::ascii_marks), unfolding(crate::specs::Parting::among, text::specs::Utf8::within))]
+#[tactic(auto, using(crate::proofs::Parted::high_marks, crate::proofs::Parted::low_marks, crate::proofs::Parted::general_marks), unfolding(crate::specs::Parting::among, text::specs::Utf8::within))]
 pub(crate) fn is_parting(c: u32) -> bool
     ensures { result ≡ parts c }
 {

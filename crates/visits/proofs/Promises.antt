@@ -1,5 +1,5 @@
 -- What the program prints, whatever stretches its input comes in: for a sheet that is accepted a line for each word of the whole input, in
--- order; for any other its refusal alone. `print_stretch` gives the lines of a stretch, `print_last` that of the last word. Assumes nothing.
+-- order; for any other its refusal alone. `put_lines` puts the lines of a stretch, `put_last` that of the last word. Assumes nothing.
 use Rattle.std.specs.Prelude.{Err, Ok, Result}
 use Prim.Native.Nat.{ℕ}
 use mathlib.Core.Path.{◌≡◌, sym, ap, ◌∙◌}

@@ -3,22 +3,18 @@
 // begin with a parenthesis, and then what the oracle prints for the two words (the file stdout).
 #![tactic(auto)]
 
-use blocks::case_at;
+use blocks::first_case;
 use listing::whole::readings_of;
 use std::io;
 use std::io::{Read, Write};
 
 fn replay<W: Write>(printed: &mut W, s: &[u8]) -> io::Result<()> {
     let mut out = [0u8; 65536];
-    let mut at = 0;
-    while at < s.len() {
-        let case = case_at(s, at);
-        let word = case.word;
-        let sheet = case.sheet;
-        let end = case.end;
-        let n = readings_of(&s[word..sheet], &s[sheet..end], &mut out);
+    let mut rest = s;
+    while let Some(case) = first_case(rest) {
+        let n = readings_of(case.word, case.sheet, &mut out);
         printed.write_all(&out[..n])?;
-        at = case.next;
+        rest = case.rest;
     }
     Ok(())
 }

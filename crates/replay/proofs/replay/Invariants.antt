@@ -1,9 +1,6 @@
--- `replay::replay` ends: each case moves the place on.
-use Rattle.std.proofs.Common.{length, ◌-◌, ◌≤◌}
+-- `replay::replay` ends: each case leaves less of the text.
+use Rattle.std.proofs.Common.{length}
 use Rattle.replay.proofs.replay.Given as goal
 
-abbrev pub invariant-loop-at : goal.invariant-loop-at
-invariant-loop-at g l = l.at ≤ length l.s
-
-abbrev pub decreases-loop-at : goal.decreases-loop-at
-decreases-loop-at g l = length l.s - l.at
+abbrev pub decreases-loop-case : goal.decreases-loop-case
+decreases-loop-case g l = length l.rest
