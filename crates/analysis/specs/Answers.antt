@@ -1,8 +1,7 @@
 -- What the core call and the two beside it hand back (document 01, "What an entry hands back"): the refusals of word and sheet, then 7
 -- for more than 64 readings, else the list. Assumes nothing.
 use Rattle.refusals.specs.declared.Refusal.{Refusal}
-use Rattle.std.specs.Prelude.{ℕ, Bool, true, false, List, [], ◌∷◌, map, Err, Ok, Result}
-use Rattle.runs.specs.Runs.{pick}
+use Rattle.std.specs.Prelude.{ℕ, Bool, true, false, List, [], ◌∷◌, map, Err, Ok, Result, Option, slice_get}
 use Rattle.text.specs.Characters.{chars}
 use Rattle.refusals.specs.Refusals.{numbers_of}
 use Rattle.refusals.specs.declared.Refusal.TheVariants.{TooManyReadings}
@@ -13,7 +12,7 @@ use Rattle.ranking.specs.declared.Classified.{Classified}
 use Rattle.paths.specs.Readings.{classified}
 use Rattle.paths.specs.Walk.{word_walk}
 use Rattle.paths.specs.Visits.{visits_of}
-use Rattle.analysis.specs.declared.entry.Best.{Best}
+use Rattle.arrayvec.specs.ArrayVec.{ArrayVec}
 
 -- all readings of w under the sheet s as the walk keeps them, in rank order, or that there are more than 64
 abbrev pub collected : List ℕ → List ℕ → Rows
@@ -45,6 +44,18 @@ said_of w s = said_by (inputs_of w s) (collected w s)
 unfoldable pub rows_given : List ℕ → List ℕ → List Classified
 rows_given w s = rows_by (inputs_of w s) (listed_rows (reply s) w (collected w s))
 
+-- the rows, or why there are none
+abbrev pub answer_by : Result (Unit {0}) Refusal → List Classified → Result (ArrayVec Classified) Refusal
+answer_by (Ok _) rs = Ok (record { items = rs })
+answer_by (Err r) rs = Err r
+
+unfoldable pub answer_of : List ℕ → List ℕ → Result (ArrayVec Classified) Refusal
+answer_of w s = answer_by (said_of w s) (rows_given w s)
+
+-- of what the walk has collected alone
+abbrev pub list_of : Ask → List ℕ → Rows → Result (ArrayVec Classified) Refusal
+list_of ask w c = answer_by (by_rows c) (listed_rows ask w c)
+
 -- the pieces visited: those of an accepted word under an accepted sheet, also where there are too many readings; none where either is
 -- refused
 abbrev pub visits_by : Result (Unit {0}) Refusal → ℕ → ℕ
@@ -67,9 +78,13 @@ abbrev pub said_numbers : Result (Unit {0}) Refusal → List ℕ
 said_numbers (Ok _) = []
 said_numbers (Err r) = numbers_of r
 
--- the reading that such an answer holds, one or none
-abbrev pub best_rows : Best → List Classified
-best_rows b = pick b.some (b.reading ∷ []) []
+-- the first of the rows given, if there is one
+abbrev pub best_by : Result (Unit {0}) Refusal → Option Classified → Result (Option Classified) Refusal
+best_by (Ok _) r = Ok r
+best_by (Err r) b = Err r
+
+unfoldable pub best_of : List ℕ → List ℕ → Result (Option Classified) Refusal
+best_of w s = best_by (said_of w s) (slice_get (rows_given w s) 0)
 
 -- whether there is one among the rows given
 abbrev pub is_some : List Classified → Bool

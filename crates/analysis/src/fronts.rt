@@ -4,39 +4,17 @@ ghost use Rattle.std.specs.Prelude.{◌≡◌};
 ghost use Rattle.analysis.specs.Fronts.{opens_form, may_begin};
 
 // Whether some prefix form has this third byte.
+#[tactic(auto, unfolding(crate::specs::Fronts::opens_form))]
 fn opens_form(b: u8) -> bool
     ensures { result ≡ opens_form b }
 {
-    if b == 0x85 {
-        return true;
-    }
-    if b == 0x86 {
-        return true;
-    }
-    if b == 0x89 {
-        return true;
-    }
-    if b == 0xA6 {
-        return true;
-    }
-    if b == 0xA8 {
-        return true;
-    }
-    if b == 0xAA {
-        return true;
-    }
-    if b == 0xB5 {
-        return true;
-    }
-    b == 0xB8
+    matches!(b, 0x85 | 0x86 | 0x89 | 0xA6 | 0xA8 | 0xAA | 0xB5 | 0xB8)
 }
 
 // Whether a prefix form can begin the piece, by its third byte.
+#[tactic(auto, unfolding(crate::specs::Fronts::may_begin))]
 pub(crate) fn may_begin(piece: &[u8]) -> bool
     ensures { result ≡ may_begin piece.now }
 {
-    if piece.len() < 3 {
-        return false;
-    }
-    opens_form(piece[2])
+    3 <= piece.len() && opens_form(piece[2])
 }

@@ -1,11 +1,10 @@
 // The readings of a stem: taken for the root itself, then with one prefix stripped, and two.
-ghost use Rattle.std.specs.Prelude.{◌≡◌, [], ◌∷◌, ◌+◌, ◌-◌, ◌≤◌, ◌<◌, length, take, drop};
+ghost use Rattle.std.specs.Prelude.{◌≡◌, [], ◌∷◌, ◌≤◌, ◌<◌, length, take};
 ghost use Rattle.runs.specs.Runs.{begins_with};
 ghost use Rattle.tables.specs.Rows.{prefix_forms};
 ghost use Rattle.lookup.specs.Lexicons.{replies};
 ghost use Rattle.progressive.specs.Progressive.{is_progressive};
-ghost use Rattle.ranking.specs.Lists.{list_limit, plus_all};
-ghost use Rattle.ranking.specs.Kept.{kept_of, HasRoom};
+ghost use Rattle.ranking.specs.Lists.{plus_all};
 ghost use Rattle.paths.specs.Walk.{root_walk, on_left, over_forms, second_walk, stem_walk};
 ghost use Rattle.paths.specs.Chains.{all_forms, most_strips, form_of};
 ghost use Rattle.paths.specs.Visits.{total, prefix_visits};
@@ -14,9 +13,10 @@ ghost use Rattle.analysis.specs.Places.{between};
 
 use crate::fronts::may_begin;
 use crate::roots::with_root;
-use lookup::lexicon::Lexicon;
-use paths::{FORMS, Piece, Prefixes, Tally};
+use lookup::asked::Asked;
+use paths::{FORMS, Piece, Prefixes};
 use progressive::find::has_supported_progressive_form;
+use ranking::kept::Kept;
 use runs::begins_with;
 use strips::prefix::prefix_rest;
 use tables::prefix_form;
@@ -30,204 +30,121 @@ fn begins(word: &[u8], from: usize, stem: usize, k: u8) -> bool
     begins_with(&word[from..stem], prefix_form(usize::from(k)))
 }
 
-// One row for the second prefix: the piece begins at byte `from` of the word, behind the first prefix. Each function of this walk counts
-// the entries of the source's prefix walk as it goes.
+// One row for the second prefix: the piece begins at byte `from` of the word, behind the first prefix. Each function of this walk gives
+// how many entries of the source's prefix walk it counted.
 fn second_row(
-    word: &[u8],
-    sheet: &Lexicon<'_>,
+    asked: &Asked<'_>,
     at: Piece,
     from: usize,
     first: u8,
     second: u8,
-    surface: u16,
-    n: usize,
-    out: &mut [u8],
-) -> Tally
-    requires { (length word.now ≤ 192)
-        × (from ≤ at.end) × (at.end ≤ length word.now) × (second < all_forms) × (surface ≤ 192) × (at.chain.count ≤ most_strips) × HasRoom out.old n }
-    ensures { (kept_of out.new result.kept ≡ plus_all word.now (kept_of out.old n)
-        (on_left (root_walk (replies sheet.now) surface at.chain (take at.end word.now) (first ∷ second ∷ []))
-        (prefix_remainder (between word.now from at.end) (form_of second)))) × (result.kept ≤ list_limit + 1)
-        × (result.visits ≡ total (prefix_visits 0 (replies sheet.now)) (prefix_remainder (between word.now from at.end) (form_of second))) }
+    kept: &mut Kept,
+) -> usize
+    requires { (from ≤ at.end) × (at.end ≤ length asked.now.word.now) × (second < all_forms) × (at.chain.count ≤ most_strips) }
+    ensures { (kept.new ≡ plus_all asked.now.word.now kept.old
+        (on_left (root_walk (replies asked.now.sheet.now) asked.now.surface at.chain (take at.end asked.now.word.now) (first ∷ second ∷ []))
+        (prefix_remainder (between asked.now.word.now from at.end) (form_of second))))
+        × (result ≡ total (prefix_visits 0 (replies asked.now.sheet.now)) (prefix_remainder (between asked.now.word.now from at.end) (form_of second))) }
 {
     let stem = at.end;
-    let rest = prefix_rest(&word[from..stem], prefix_form(usize::from(second)));
+    let rest = prefix_rest(&asked.word[from..stem], prefix_form(usize::from(second)));
     match rest {
-        None => Tally { kept: n, visits: 0 },
+        None => 0,
         Some(cut) => {
             let root = from + cut;
-            let progressive = has_supported_progressive_form(sheet, &word[root..stem]);
-            let kept = with_root(
-                word,
-                sheet,
-                at,
-                root,
-                Prefixes {
-                    rows: [first, second],
-                    count: 2,
-                },
-                surface,
-                progressive,
-                n,
-                out,
-            );
-            Tally { kept, visits: 1 }
+            let progressive = has_supported_progressive_form(asked.sheet, &asked.word[root..stem]);
+            let prefixes = Prefixes {
+                rows: [first, second],
+                count: 2,
+            };
+            with_root(asked, at, root, prefixes, progressive, kept);
+            1
         }
     }
 }
 
 // All rows for the second prefix, behind the first.
-fn second_rows(
-    word: &[u8],
-    sheet: &Lexicon<'_>,
-    at: Piece,
-    from: usize,
-    first: u8,
-    surface: u16,
-    n: usize,
-    out: &mut [u8],
-) -> Tally
-    requires { (length word.now ≤ 192)
-        × (from ≤ at.end) × (at.end ≤ length word.now) × (surface ≤ 192) × (at.chain.count ≤ most_strips) × HasRoom out.old n }
-    ensures { (kept_of out.new result.kept ≡ plus_all word.now (kept_of out.old n)
-        (over_forms (λ second left. root_walk (replies sheet.now) surface at.chain (take at.end word.now) (first ∷ second ∷ []) left)
-        (between word.now from at.end) 0 all_forms)) × (result.kept ≤ list_limit + 1)
-        × (result.visits ≡ total (λ form. total (prefix_visits 0 (replies sheet.now)) (prefix_remainder (between word.now from at.end) form)) prefix_forms) }
+fn second_rows(asked: &Asked<'_>, at: Piece, from: usize, first: u8, kept: &mut Kept) -> usize
+    requires { (from ≤ at.end) × (at.end ≤ length asked.now.word.now) × (at.chain.count ≤ most_strips) }
+    ensures { (kept.new ≡ plus_all asked.now.word.now kept.old
+        (over_forms (λ second left. root_walk (replies asked.now.sheet.now) asked.now.surface at.chain (take at.end asked.now.word.now) (first ∷ second ∷ []) left)
+        (between asked.now.word.now from at.end) 0 all_forms))
+        × (result ≡ total (λ form. total (prefix_visits 0 (replies asked.now.sheet.now)) (prefix_remainder (between asked.now.word.now from at.end) form)) prefix_forms) }
 {
-    let stem = at.end;
-    let mut f = n;
     let mut v: usize = 0;
     for k in 0..FORMS {
-        if !begins(word, from, stem, k) {
+        if !begins(asked.word, from, at.end, k) {
             continue;
         }
-        let r = second_row(word, sheet, at, from, first, k, surface, f, out);
-        f = r.kept;
-        v += r.visits;
+        v += second_row(asked, at, from, first, k, kept);
     }
-    Tally { kept: f, visits: v }
+    v
 }
 
 // One row for the first prefix: its own reading, and, where what it leaves is no progressive form, those of a second prefix.
-fn first_row(
-    word: &[u8],
-    sheet: &Lexicon<'_>,
-    at: Piece,
-    first: u8,
-    surface: u16,
-    n: usize,
-    out: &mut [u8],
-) -> Tally
-    requires { (length word.now ≤ 192)
-        × (at.end ≤ length word.now) × (first < all_forms) × (surface ≤ 192) × (at.chain.count ≤ most_strips) × HasRoom out.old n }
-    ensures { (kept_of out.new result.kept ≡ plus_all word.now (kept_of out.old n)
-        (on_left (second_walk (replies sheet.now) surface at.chain (take at.end word.now) first)
-        (prefix_remainder (take at.end word.now) (form_of first)))) × (result.kept ≤ list_limit + 1)
-        × (result.visits ≡ total (prefix_visits 1 (replies sheet.now)) (prefix_remainder (take at.end word.now) (form_of first))) }
+fn first_row(asked: &Asked<'_>, at: Piece, first: u8, kept: &mut Kept) -> usize
+    requires { (at.end ≤ length asked.now.word.now) × (first < all_forms) × (at.chain.count ≤ most_strips) }
+    ensures { (kept.new ≡ plus_all asked.now.word.now kept.old
+        (on_left (second_walk (replies asked.now.sheet.now) asked.now.surface at.chain (take at.end asked.now.word.now) first)
+        (prefix_remainder (take at.end asked.now.word.now) (form_of first))))
+        × (result ≡ total (prefix_visits 1 (replies asked.now.sheet.now)) (prefix_remainder (take at.end asked.now.word.now) (form_of first))) }
 {
     let stem = at.end;
-    let rest = prefix_rest(&word[..stem], prefix_form(usize::from(first)));
+    let rest = prefix_rest(&asked.word[..stem], prefix_form(usize::from(first)));
     match rest {
-        None => Tally { kept: n, visits: 0 },
+        None => 0,
         Some(root) => {
-            let progressive = has_supported_progressive_form(sheet, &word[root..stem]);
-            let f = with_root(
-                word,
-                sheet,
-                at,
-                root,
-                Prefixes {
-                    rows: [first, 0],
-                    count: 1,
-                },
-                surface,
-                progressive,
-                n,
-                out,
-            );
+            let progressive = has_supported_progressive_form(asked.sheet, &asked.word[root..stem]);
+            let prefixes = Prefixes {
+                rows: [first, 0],
+                count: 1,
+            };
+            with_root(asked, at, root, prefixes, progressive, kept);
             if progressive {
-                return Tally { kept: f, visits: 1 };
+                return 1;
             }
-            if !may_begin(&word[root..stem]) {
-                return Tally { kept: f, visits: 1 };
+            if !may_begin(&asked.word[root..stem]) {
+                return 1;
             }
-            let more = second_rows(word, sheet, at, root, first, surface, f, out);
-            Tally {
-                kept: more.kept,
-                visits: 1 + more.visits,
-            }
+            1 + second_rows(asked, at, root, first, kept)
         }
     }
 }
 
 // All rows for the first prefix.
-fn first_rows(
-    word: &[u8],
-    sheet: &Lexicon<'_>,
-    at: Piece,
-    surface: u16,
-    n: usize,
-    out: &mut [u8],
-) -> Tally
-    requires { (length word.now ≤ 192)
-        × (at.end ≤ length word.now) × (surface ≤ 192) × (at.chain.count ≤ most_strips) × HasRoom out.old n }
-    ensures { (kept_of out.new result.kept ≡ plus_all word.now (kept_of out.old n)
-        (over_forms (second_walk (replies sheet.now) surface at.chain (take at.end word.now)) (take at.end word.now) 0 all_forms)) × (result.kept ≤ list_limit + 1)
-        × (result.visits ≡ total (λ form. total (prefix_visits 1 (replies sheet.now)) (prefix_remainder (take at.end word.now) form)) prefix_forms) }
+fn first_rows(asked: &Asked<'_>, at: Piece, kept: &mut Kept) -> usize
+    requires { (at.end ≤ length asked.now.word.now) × (at.chain.count ≤ most_strips) }
+    ensures { (kept.new ≡ plus_all asked.now.word.now kept.old
+        (over_forms (second_walk (replies asked.now.sheet.now) asked.now.surface at.chain (take at.end asked.now.word.now)) (take at.end asked.now.word.now) 0 all_forms))
+        × (result ≡ total (λ form. total (prefix_visits 1 (replies asked.now.sheet.now)) (prefix_remainder (take at.end asked.now.word.now) form)) prefix_forms) }
 {
-    let stem = at.end;
-    let mut f = n;
     let mut v: usize = 0;
     for k in 0..FORMS {
-        if !begins(word, 0, stem, k) {
+        if !begins(asked.word, 0, at.end, k) {
             continue;
         }
-        let r = first_row(word, sheet, at, k, surface, f, out);
-        f = r.kept;
-        v += r.visits;
+        v += first_row(asked, at, k, kept);
     }
-    Tally { kept: f, visits: v }
+    v
 }
 
 // The readings with this stem; whether the stem is a supported progressive form, which is never stripped, is known already.
-pub(crate) fn with_stem(
-    word: &[u8],
-    sheet: &Lexicon<'_>,
-    at: Piece,
-    surface: u16,
-    progressive: bool,
-    n: usize,
-    out: &mut [u8],
-) -> Tally
-    requires { (length word.now ≤ 192)
-        × (at.end ≤ length word.now) × (surface ≤ 192) × (at.chain.count ≤ most_strips) × (progressive ≡ is_progressive (replies sheet.now) (take at.end word.now)) × HasRoom out.old n }
-    ensures { (kept_of out.new result.kept ≡ plus_all word.now (kept_of out.old n) (stem_walk (replies sheet.now) surface at.chain (take at.end word.now))) × (result.kept ≤ list_limit + 1)
-        × (result.visits ≡ prefix_visits 2 (replies sheet.now) (take at.end word.now)) }
+pub(crate) fn with_stem(asked: &Asked<'_>, at: Piece, progressive: bool, kept: &mut Kept) -> usize
+    requires { (at.end ≤ length asked.now.word.now) × (at.chain.count ≤ most_strips)
+        × (progressive ≡ is_progressive (replies asked.now.sheet.now) (take at.end asked.now.word.now)) }
+    ensures { (kept.new ≡ plus_all asked.now.word.now kept.old (stem_walk (replies asked.now.sheet.now) asked.now.surface at.chain (take at.end asked.now.word.now)))
+        × (result ≡ prefix_visits 2 (replies asked.now.sheet.now) (take at.end asked.now.word.now)) }
 {
-    let stem = at.end;
-    let f = with_root(
-        word,
-        sheet,
-        at,
-        0,
-        Prefixes {
-            rows: [0, 0],
-            count: 0,
-        },
-        surface,
-        progressive,
-        n,
-        out,
-    );
+    let prefixes = Prefixes {
+        rows: [0, 0],
+        count: 0,
+    };
+    with_root(asked, at, 0, prefixes, progressive, kept);
     if progressive {
-        return Tally { kept: f, visits: 1 };
+        return 1;
     }
-    if !may_begin(&word[..stem]) {
-        return Tally { kept: f, visits: 1 };
+    if !may_begin(&asked.word[..at.end]) {
+        return 1;
     }
-    let more = first_rows(word, sheet, at, surface, f, out);
-    Tally {
-        kept: more.kept,
-        visits: 1 + more.visits,
-    }
+    1 + first_rows(asked, at, kept)
 }

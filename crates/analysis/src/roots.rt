@@ -1,56 +1,47 @@
 // A reading for a stem and a root, where the root is supported.
-ghost use Rattle.std.specs.Prelude.{◌≡◌, ◌+◌, ◌-◌, ◌≤◌, length, take, drop};
+ghost use Rattle.std.specs.Prelude.{◌≡◌, ◌-◌, ◌≤◌, length, take, drop};
 ghost use Rattle.lookup.specs.Lexicons.{replies};
 ghost use Rattle.progressive.specs.Progressive.{is_progressive};
-ghost use Rattle.ranking.specs.Lists.{list_limit, plus_all};
-ghost use Rattle.ranking.specs.Kept.{kept_of, HasRoom};
+ghost use Rattle.ranking.specs.Lists.{plus_all};
 ghost use Rattle.paths.specs.Chains.{most_strips, most_prefixes};
 ghost use Rattle.analysis.specs.Places.{root_found};
 
 use crate::support::{Support, is_supported, score, support_of};
-use lookup::lexicon::Lexicon;
+use lookup::asked::Asked;
 use paths::{Piece, Prefixes};
 use ranking::Reading;
-use ranking::kept::store;
+use ranking::kept::Kept;
 
-// What has been collected, with the reading of this root where it is supported. The stem is the piece that the walk is at, the root
-// begins at byte `root`. Each score adds `surface`, whatever number that is.
+// Keeps the reading of a root where it is supported. The stem is the piece that the walk is at, the root begins at byte `root`.
 pub(crate) fn with_root(
-    word: &[u8],
-    sheet: &Lexicon<'_>,
+    asked: &Asked<'_>,
     at: Piece,
     root: usize,
     prefixes: Prefixes,
-    surface: u16,
     progressive: bool,
-    n: usize,
-    out: &mut [u8],
-) -> usize
-    requires { (root ≤ at.end) × (at.end ≤ length word.now) × (length word.now ≤ 192) × (surface ≤ 192) × (prefixes.count ≤ most_prefixes) × (at.chain.count ≤ most_strips)
-        × (progressive ≡ is_progressive (replies sheet.now) (take (at.end - root) (drop root word.now))) × HasRoom out.old n }
-    ensures { (kept_of out.new result ≡ plus_all word.now (kept_of out.old n)
-        (root_found (replies sheet.now) surface at.chain word.now at.end root prefixes)) × (result ≤ list_limit + 1) }
+    kept: &mut Kept,
+)
+    requires { (root ≤ at.end) × (at.end ≤ length asked.now.word.now) × (prefixes.count ≤ most_prefixes) × (at.chain.count ≤ most_strips)
+        × (progressive ≡ is_progressive (replies asked.now.sheet.now) (take (at.end - root) (drop root asked.now.word.now))) }
+    ensures { kept.new ≡ plus_all asked.now.word.now kept.old
+        (root_found (replies asked.now.sheet.now) asked.now.surface at.chain asked.now.word.now at.end root prefixes) }
 {
-    let stem = at.end;
-    let piece = &word[root..stem];
-    let s = support_of(sheet, piece, progressive);
+    let piece = &asked.word[root..at.end];
+    let s = support_of(asked.sheet, piece, progressive);
     if !is_supported(s, piece.len()) {
-        return n;
+        return;
     }
     let chain = at.chain;
     let segments = chain.segments;
-    let suffix_count = chain.count;
     let rows = prefixes.rows;
-    let prefix_count = prefixes.count;
-    let end = stem as u16;
     let reading = Reading {
-        stem: end,
+        stem: at.end as u16,
         root: root as u16,
-        score: score(surface, s, prefix_count, suffix_count),
+        score: score(asked.surface, s, prefixes.count, chain.count),
         prefixes: rows,
         segments,
-        prefix_count,
-        suffix_count,
+        prefix_count: prefixes.count,
+        suffix_count: chain.count,
     };
-    store(word, reading, n, out)
+    kept.add(asked.word, reading);
 }

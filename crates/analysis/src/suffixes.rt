@@ -3,8 +3,7 @@ ghost use Rattle.std.specs.Prelude.{◌≡◌, ◌+◌, ◌-◌, ◌*◌, ◌≤
 ghost use Rattle.runs.specs.Runs.{ends_in};
 ghost use Rattle.tables.specs.Tables.{affixes};
 ghost use Rattle.lookup.specs.Lexicons.{replies};
-ghost use Rattle.ranking.specs.Lists.{list_limit, plus_all};
-ghost use Rattle.ranking.specs.Kept.{kept_of, HasRoom};
+ghost use Rattle.ranking.specs.Lists.{plus_all};
 ghost use Rattle.paths.specs.Chains.{all_rows, most_strips, rows_after};
 ghost use Rattle.paths.specs.Readings.{group_kind, kind_of};
 ghost use Rattle.paths.specs.Walk.{pushed_of, row_walk, piece_walk};
@@ -12,9 +11,11 @@ ghost use Rattle.paths.specs.Weighed.{times_after, entries_at, row_weighed, weig
 
 use crate::prefixes::with_stem;
 use lookup::answers::SheetKind;
+use lookup::asked::Asked;
 use lookup::lexicon::Lexicon;
-use paths::{Chain, Piece, STRIPS, Tally};
+use paths::{Chain, Piece, STRIPS};
 use progressive::find::has_supported_progressive_form;
+use ranking::kept::Kept;
 use ranking::{AffixKind, Segment};
 use runs::ends_with;
 use strips::suffix::suffix_rests;
@@ -24,13 +25,11 @@ use tables::affix;
 fn group_kind(k: u8) -> AffixKind
     ensures { result ≡ group_kind k }
 {
-    if k < 2 {
-        return AffixKind::PluralMarker;
+    match k {
+        0..=1 => AffixKind::PluralMarker,
+        2..=17 => AffixKind::CaseMarker,
+        _ => AffixKind::Particle,
     }
-    if k < 18 {
-        return AffixKind::CaseMarker;
-    }
-    AffixKind::Particle
 }
 
 // How many rows may be stripped after row k.
@@ -81,15 +80,15 @@ fn counted(entries: u8, each: usize) -> usize
 }
 
 // The kind of a row: that of a kind line of the sheet, else that of its group.
+#[tactic(auto, unfolding(lookup::specs::Answers::kind_for))]
 fn kind_at(sheet: &Lexicon<'_>, k: u8) -> AffixKind
     requires { (k < all_rows) }
     ensures { result ≡ kind_of (replies sheet.now) k }
 {
-    let listed = sheet.kind_of(affix(usize::from(k)));
-    match listed {
-        SheetKind::Unlisted => group_kind(k),
-        SheetKind::Post => AffixKind::Postposition,
-        SheetKind::Comp => AffixKind::ComparisonMarker,
+    match sheet.kind_of(affix(usize::from(k))) {
+        None => group_kind(k),
+        Some(SheetKind::Post) => AffixKind::Postposition,
+        Some(SheetKind::Comp) => AffixKind::ComparisonMarker,
     }
 }
 
@@ -116,123 +115,77 @@ fn ends(word: &[u8], end: usize, k: u8) -> bool
 }
 
 // The readings of the piece that is the word's first `end` bytes, with the suffixes stripped so far: those that take it for the
-// stem, then those that strip one of the first `rows` rows and go on. Beside them the number of the source's entries: it visits a piece
+// stem, then those that strip one of the first `rows` rows and go on. It gives the number of the source's entries: it visits a piece
 // once, and counts it as often as the source enters it.
 #[cycle(below_visit)]
-pub(crate) fn visit(
-    word: &[u8],
-    sheet: &Lexicon<'_>,
-    at: Piece,
-    surface: u16,
-    n: usize,
-    out: &mut [u8],
-) -> Tally
-    requires { (length word.now ≤ 192)
-        × (at.end ≤ length word.now) × (surface ≤ 192) × (at.chain.count ≤ most_strips) × (at.rows ≤ all_rows) × HasRoom out.old n × (at.times ≤ 2) }
-    ensures { (kept_of out.new result.kept ≡ plus_all word.now (kept_of out.old n)
-        (piece_walk (most_strips - at.chain.count) (replies sheet.now) surface at.chain at.rows (take at.end word.now))) × (result.kept ≤ list_limit + 1)
-        × (result.visits ≡ weighed (most_strips - at.chain.count) (replies sheet.now) at.rows at.times (take at.end word.now)) }
+pub(crate) fn visit(asked: &Asked<'_>, at: Piece, kept: &mut Kept) -> usize
+    requires { (at.end ≤ length asked.now.word.now) × (at.chain.count ≤ most_strips) × (at.rows ≤ all_rows) × (at.times ≤ 2) }
+    ensures { (kept.new ≡ plus_all asked.now.word.now kept.old
+        (piece_walk (most_strips - at.chain.count) (replies asked.now.sheet.now) asked.now.surface at.chain at.rows (take at.end asked.now.word.now)))
+        × (result ≡ weighed (most_strips - at.chain.count) (replies asked.now.sheet.now) at.rows at.times (take at.end asked.now.word.now)) }
 {
-    let end = at.end;
-    let chain = at.chain;
-    let rows = at.rows;
-    let times = at.times;
-    let progressive = has_supported_progressive_form(sheet, &word[..end]);
-    let stem = with_stem(word, sheet, at, surface, progressive, n, out);
-    let mut f = stem.kept;
-    let each = 1 + stem.visits;
-    let visits = counted(times, each);
+    let progressive = has_supported_progressive_form(asked.sheet, &asked.word[..at.end]);
+    let each = 1 + with_stem(asked, at, progressive, kept);
     if progressive {
-        return Tally { kept: f, visits };
+        return counted(at.times, each);
     }
-    if STRIPS <= chain.count {
-        return Tally { kept: f, visits };
+    if STRIPS <= at.chain.count {
+        return counted(at.times, each);
     }
-    let mut v = counted(entries(rows, times), each);
-    for k in 0..rows {
-        if !ends(word, end, k) {
+    let mut v = counted(entries(at.rows, at.times), each);
+    for k in 0..at.rows {
+        if !ends(asked.word, at.end, k) {
             continue;
         }
-        let r = below(word, sheet, at, k, surface, f, out);
-        f = r.kept;
-        v += r.visits;
+        v += below(asked, at, k, kept);
     }
-    Tally { kept: f, visits: v }
+    v
 }
 
 // The readings that strip row k from the piece: what is left plain, then what is left shared, each with its mark.
 #[cycle(below_visit)]
-fn below(
-    word: &[u8],
-    sheet: &Lexicon<'_>,
-    at: Piece,
-    k: u8,
-    surface: u16,
-    n: usize,
-    out: &mut [u8],
-) -> Tally
-    requires { (length word.now ≤ 192)
-        × (at.end ≤ length word.now) × (surface ≤ 192) × (at.chain.count < most_strips) × (k < all_rows) × HasRoom out.old n × (at.times ≤ 2) }
-    ensures { (kept_of out.new result.kept ≡ plus_all word.now (kept_of out.old n)
-        (row_walk (piece_walk (3 - at.chain.count) (replies sheet.now) surface) (replies sheet.now) at.chain (take at.end word.now) k)) × (result.kept ≤ list_limit + 1)
-        × (result.visits ≡ row_weighed (weighed (3 - at.chain.count) (replies sheet.now)) at.times (take at.end word.now) k) }
+fn below(asked: &Asked<'_>, at: Piece, k: u8, kept: &mut Kept) -> usize
+    requires { (at.end ≤ length asked.now.word.now) × (at.chain.count < most_strips) × (k < all_rows) × (at.times ≤ 2) }
+    ensures { (kept.new ≡ plus_all asked.now.word.now kept.old
+        (row_walk (piece_walk (3 - at.chain.count) (replies asked.now.sheet.now) asked.now.surface) (replies asked.now.sheet.now) at.chain (take at.end asked.now.word.now) k))
+        × (result ≡ row_weighed (weighed (3 - at.chain.count) (replies asked.now.sheet.now)) at.times (take at.end asked.now.word.now) k) }
 {
-    let end = at.end;
-    let chain = at.chain;
-    let rests = suffix_rests(&word[..end], affix(usize::from(k)));
+    let rests = suffix_rests(&asked.word[..at.end], affix(usize::from(k)));
     let Some(plain) = rests.plain else {
-        return Tally { kept: n, visits: 0 };
+        return 0;
     };
-    let kind = kind_at(sheet, k);
+    let kind = kind_at(asked.sheet, k);
     let rows = rows_after(k);
     let times = times_after(at.times, k);
-    let next = pushed(
-        chain,
-        Segment {
-            label: k,
-            kind,
-            shared: false,
-        },
-    );
-    let f = visit(
-        word,
-        sheet,
-        Piece {
-            end: plain,
-            chain: next,
-            rows,
-            times,
-        },
-        surface,
-        n,
-        out,
-    );
+    let next = Piece {
+        end: plain,
+        chain: pushed(
+            at.chain,
+            Segment {
+                label: k,
+                kind,
+                shared: false,
+            },
+        ),
+        rows,
+        times,
+    };
+    let f = visit(asked, next, kept);
     let Some(shared) = rests.shared else {
         return f;
     };
-    let other = pushed(
-        chain,
-        Segment {
-            label: k,
-            kind,
-            shared: true,
-        },
-    );
-    let g = visit(
-        word,
-        sheet,
-        Piece {
-            end: shared,
-            chain: other,
-            rows,
-            times,
-        },
-        surface,
-        f.kept,
-        out,
-    );
-    Tally {
-        kept: g.kept,
-        visits: f.visits + g.visits,
-    }
+    let other = Piece {
+        end: shared,
+        chain: pushed(
+            at.chain,
+            Segment {
+                label: k,
+                kind,
+                shared: true,
+            },
+        ),
+        rows,
+        times,
+    };
+    f + visit(asked, other, kept)
 }

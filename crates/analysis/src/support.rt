@@ -27,10 +27,7 @@ pub(crate) fn is_known(sheet: &Lexicon<'_>, range: Range, p: &[u8], q: &[u8]) ->
     ensures { result ≡ is_known (replies sheet.now) (p.now ++ q.now) }
 {
     let letters = sheet.letters_in(range, p, q);
-    if letters.word {
-        return true;
-    }
-    letters.head
+    letters.word || letters.head
 }
 
 // Whether the sheet knows the piece with one of the 25 texts appended. The lines whose names begin with the piece are known.
@@ -50,10 +47,7 @@ pub(crate) fn has_sibling(sheet: &Lexicon<'_>, range: Range, piece: &[u8]) -> bo
 fn points_for(b: bool, n: u16) -> u16
     ensures { (result ≡ points b n) × (result ≤ n) }
 {
-    if b {
-        return n;
-    }
-    0
+    if b { n } else { 0 }
 }
 
 // The score of a reading whose root has this support: the surface has so many characters, and so many affixes are stripped.
@@ -72,19 +66,7 @@ pub(crate) fn score(surface: u16, s: Support, prefixes: u8, suffixes: u8) -> u16
 pub(crate) fn is_supported(s: Support, len: usize) -> bool
     ensures { result ≡ supports s len }
 {
-    if len == 0 {
-        return false;
-    }
-    if s.word {
-        return true;
-    }
-    if s.head {
-        return true;
-    }
-    if s.sibling {
-        return true;
-    }
-    s.progressive
+    len != 0 && (s.word || s.head || s.sibling || s.progressive)
 }
 
 // Whether the one line of the range is that of the root itself, whose letters these are. Then no longer name begins with the root.
@@ -92,13 +74,7 @@ fn is_alone(range: Range, letters: Letters) -> bool
     requires { range.lo ≤ range.hi }
     ensures { result ≡ is_alone range letters }
 {
-    if 1 < range.hi - range.lo {
-        return false;
-    }
-    if letters.word {
-        return true;
-    }
-    letters.head
+    range.hi - range.lo <= 1 && (letters.word || letters.head)
 }
 
 // What the sheet says of a root; whether it is a supported progressive form is known already. Where no name begins with the root,

@@ -1,6 +1,6 @@
 -- How large the places of an answer are: an accepted word has at most 192 bytes, an accepted sheet at most 65,536, a lemma's name at
 -- most 210, and a faulty line begins inside the sheet. So each place fits its bits of a code. The proofs of the exported functions cite it. Assumes nothing.
-use Rattle.std.specs.Prelude.{Err, None, Ok, Option, Result, Some}
+use Rattle.std.specs.Prelude.{Err, None, Ok, Option, Result, Some, unwrap_or}
 use Rattle.origin.specs.declared.OriginDecision.{OriginDecision}
 use Prim.Native.Nat.{ℕ, ◌+◌, ◌≤◌, ◌<◌}
 use mathlib.Core.Path.{◌≡◌, refl, sym, ap, subst, ◌∙◌}
@@ -62,21 +62,26 @@ is_name_short x h =
     leb-true (length x) 210 (and_right (ltb 0 (length x)) (leb (length x) 210) b)
 
 -- a name that the sheet has a `w` line for is the name of a form
-name-short : (s name : List ℕ) (f : Option ℕ) → sheet_check s ≡ Ok tt → f ≡ place_of s 0x77 name → (name_spot s f).len ≤ 210
+name-short : (s name : List ℕ) (f : Option ℕ) → sheet_check s ≡ Ok tt → f ≡ place_of s 0x77 name → (unwrap_or (name_spot s f) (record { at = 0; len = 0 })).len ≤ 210
 unfolding place_of
 name-short s name None h e = omega arith
 name-short s name (Some at) h e =
     let a = place_asks s (key_of 0x77 name) (starts_of s) at (sym e) in
     is_name_short (line_at s at).name (form-named (drop at s) (up_member s [] (starts_of s) at (accepted_up s h) a.0))
 
-lemma-short : (w s : List ℕ) (o : Outcome) → sheet_check s ≡ Ok tt → (form_of s w o).lemma_len ≤ 210
-lemma-short w s no h = omega arith
+-- the lemma's name of a form, if there is one, is short
+abbrev ShortLemma : Option Progressive → Type 0
+ShortLemma None = Unit {0}
+ShortLemma (Some f) = f.lemma_len ≤ 210
+
+lemma-short : (w s : List ℕ) (o : Outcome) → sheet_check s ≡ Ok tt → ShortLemma (form_of s w o)
+lemma-short w s no h = tt
 lemma-short w s (yes name n) h = name-short s name (place_of s 0x77 name) h refl
 
 -- what an answer about progressive forms lets be said of word, sheet and faulty line
-abbrev pub SmallForm : List ℕ → List ℕ → Result Progressive Refusal → Type 0
+abbrev pub SmallForm : List ℕ → List ℕ → Result (Option Progressive) Refusal → Type 0
 SmallForm w s (Err r) = Placed r
-SmallForm w s (Ok form) = (length w ≤ word_limit) × (length s ≤ sheet_limit) × (form.lemma_len ≤ 210)
+SmallForm w s (Ok form) = (length w ≤ word_limit) × (length s ≤ sheet_limit) × ShortLemma form
 
 pub answer_small : (w s : List ℕ) → SmallForm w s (answer_of w s)
 unfolding answer_of
@@ -89,14 +94,14 @@ answer_small w s = by (inputs_of w s) refl
     by (Err r) e = refused-placed w s r e
 
 -- the same of what the analysis gave, r, which turned out to be a
-pub analyzed_small : (w s : List ℕ) (r a : Result Progressive Refusal) → Analyzed w s r → r ≡ a → SmallForm w s a
+pub analyzed_small : (w s : List ℕ) (r a : Result (Option Progressive) Refusal) → Analyzed w s r → r ≡ a → SmallForm w s a
 analyzed_small w s r a k e = subst (SmallForm w s) (sym k.settled ∙ e) (answer_small w s)
 
 -- the places of a form that was given
-pub form_small : (w s : List ℕ) (r : Result Progressive Refusal) (f : Progressive) → Analyzed w s r → r ≡ Ok f →
+pub form_small : (w s : List ℕ) (r : Result (Option Progressive) Refusal) (f : Progressive) → Analyzed w s r → r ≡ Ok (Some f) →
     (f.main_end ≤ word_limit) × (f.lemma_len ≤ 210) × (f.lemma_at + f.lemma_len ≤ sheet_limit)
 form_small w s r f k e =
-    let n = analyzed_small w s r (Ok f) k e in
+    let n = analyzed_small w s r (Ok (Some f)) k e in
     let l = subst (Lies w s) e k.lies in
     (omega (arith, n, l), n.2, omega (arith, n, l))
 

@@ -1,22 +1,14 @@
 -- What is stored of the rows that the walk has kept. The proofs of `rows` cite these. Assumes nothing.
 use Rattle.std.specs.Prelude.{Err, Ok, Result}
-use Prim.Native.Nat.{ℕ, zero, suc, ◌<◌, ◌≤◌}
-use native.Mathlib.Omega.{arith}
-use mathlib.Core.Path.{◌≡◌, refl, sym, ap, ◌∙◌}
-use mathlib.Core.List.{List, [], ◌∷◌, map}
-use lib.ListN.{length, take, get_or, length-map}
-use lib.Seq.{length-take-le, get_or-take}
+use Prim.Native.Nat.{ℕ}
+use mathlib.Core.Path.{◌≡◌, refl, ap, ◌∙◌}
+use mathlib.Core.List.{List, map}
 use Rattle.refusals.specs.declared.Refusal.{Refusal}
 use Rattle.refusals.specs.declared.Refusal.TheVariants.{TooManyReadings}
 use Rattle.sheet.specs.Inputs.{inputs_of}
 use Rattle.sheet.specs.Replies.{reply}
 use Rattle.ranking.specs.declared.Reading.{Reading}
-use Rattle.ranking.specs.declared.Classified.{Classified}
-use Rattle.ranking.specs.Lists.{Rows, list_limit}
-use Rattle.ranking.specs.Kept.{rows_in, kept_of}
-use Rattle.ranking.specs.Places.{no_reading, no_row}
-use Rattle.ranking.proofs.Backs.{rows-length}
-use Rattle.ranking.proofs.Puts.{kept-over, kept-rows}
+use Rattle.ranking.specs.Lists.{Rows, rows, over}
 use Rattle.paths.specs.Readings.{classified}
 use Rattle.analysis.specs.Answers.{collected, listed_rows, said_by, rows_by, said_of, rows_given}
 use Rattle.exports.specs.Codes.{refusal_code}
@@ -35,31 +27,11 @@ module _ (w s out : List ℕ) where
   unfolding readings_by
   filled-refused r e = ap (λ (i : Result (Unit {0}) Refusal). readings_by i (collected w s)) e ∙ filled-by
 
-  module _ (kept : List ℕ) (n : ℕ) (a : (Ok tt) ≡ inputs_of w s) (e : kept_of kept n ≡ collected w s) where
-    pub filled-over : list_limit < n → record { code = refusal_code TooManyReadings; buffer = out } ≡ readings_filled w s out
+  module _ (a : (Ok tt) ≡ inputs_of w s) where
+    pub filled-over : over ≡ collected w s → record { code = refusal_code TooManyReadings; buffer = out } ≡ readings_filled w s out
     unfolding readings_by
-    filled-over h = ap (readings_by (Ok tt)) (kept-over kept n h ∙ e) ∙ ap (λ (i : Result (Unit {0}) Refusal). readings_by i (collected w s)) a ∙ filled-by
+    filled-over e = ap (readings_by (Ok tt)) e ∙ ap (λ (i : Result (Unit {0}) Refusal). readings_by i (collected w s)) a ∙ filled-by
 
-    pub filled-rows : n ≤ list_limit → rows_filled row_width row_bytes (map (classified (reply s) w) (take n (rows_in kept))) out ≡ readings_filled w s out
+    pub filled-rows : (kept : List Reading) → rows kept ≡ collected w s → rows_filled row_width row_bytes (map (classified (reply s) w) kept) out ≡ readings_filled w s out
     unfolding readings_by
-    filled-rows h =
-        ap (readings_by (Ok tt)) (kept-rows kept n (take n (rows_in kept)) h refl ∙ e) ∙ ap (λ (i : Result (Unit {0}) Refusal). readings_by i (collected w s)) a ∙ filled-by
-
--- the row of a kept reading
-pub get_map : (f : Reading → Classified) (xs : List Reading) (i : ℕ) (d : Reading) (c : Classified) → i < length xs → get_or (map f xs) i c ≡ f (get_or xs i d)
-get_map f [] i d c h = absurd (omega arith)
-get_map f (x ∷ xs) zero d c h = refl
-get_map f (x ∷ xs) (suc i) d c h = get_map f xs i d c (omega arith)
-
--- the first n rows of the buffer, each with what is decided of its root
-abbrev pub rows_for : List ℕ → List ℕ → List ℕ → ℕ → List Classified
-rows_for w s kept n = map (classified (reply s) w) (take n (rows_in kept))
-
-module _ (w s kept : List ℕ) (n : ℕ) (h : n ≤ list_limit) where
-  pub rows-counted : n ≡ length (rows_for w s kept n)
-  rows-counted = sym (length-map (take n (rows_in kept)) (classified (reply s) w) ∙ length-take-le n (rows_in kept) (omega (arith, rows-length kept)))
-
-  pub row_is : (i : ℕ) → i < n → get_or (rows_for w s kept n) i no_row ≡ classified (reply s) w (get_or (rows_in kept) i no_reading)
-  row_is i l =
-      get_map (classified (reply s) w) (take n (rows_in kept)) i no_reading no_row (omega (arith, length-take-le n (rows_in kept) (omega (arith, rows-length kept))))
-      ∙ ap (classified (reply s) w) (get_or-take n (rows_in kept) i no_reading l)
+    filled-rows kept e = ap (readings_by (Ok tt)) e ∙ ap (λ (i : Result (Unit {0}) Refusal). readings_by i (collected w s)) a ∙ filled-by

@@ -1,17 +1,21 @@
 -- Laws of what is stored in a lent buffer. The proofs of the functions of `parts` and `rows` cite these. Assumes nothing.
 use Rattle.std.specs.Prelude.{Err, Ok, Result}
 use Rattle.refusals.specs.declared.Refusal.{Refusal}
-use Prim.Native.Nat.{ℕ, ◌+◌, ◌*◌, ◌/◌, ◌%◌, ◌<◌, ◌≤◌}
+use Prim.Native.Nat.{ℕ, zero, suc, ◌+◌, ◌*◌, ◌/◌, ◌%◌, ◌<◌, ◌≤◌}
 use native.Mathlib.Omega.{arith}
 use mathlib.Core.Path.{◌≡◌, refl, sym, ap, ◌∙◌}
-use mathlib.Core.List.{List, ◌++◌, append_assoc}
-use lib.ListN.{length, take, drop}
+use mathlib.Core.List.{List, [], ◌∷◌, ◌++◌, append_assoc}
+use lib.ListN.{length, take, drop, get_or}
+use mir.Syntax.{w16}
+use Rattle.std.specs.Int.{to_le_bytes}
 use lib.Seq.{take_at, drop_at, drop-drop}
 use borrow.Rule.Slice.PartMut.{put_mid}
 use borrow.Author.Tests.{lt-ltb, le-ltb}
 use Rattle.sheet.specs.Inputs.{inputs_of}
 use Rattle.decomposition.specs.Answers.{morpheme_if, morpheme_answer}
 use Rattle.decomposition.specs.declared.Morpheme.{Morpheme}
+use Rattle.decomposition.specs.declared.Parts.{Parts}
+use Rattle.ranking.specs.Stored.{cells}
 use Rattle.ranking.specs.declared.Classified.{Classified}
 use Rattle.analysis.specs.Answers.{said_of, rows_given}
 use Rattle.roots.specs.Answers.{roots_for}
@@ -21,9 +25,9 @@ use Rattle.exports.specs.Codes.{bit, origin_number, refusal_code}
 use Rattle.exports.specs.Rows.{Filled, readings_if, readings_filled}
 use Rattle.exports.specs.Filled.{parts_bytes, morpheme_bytes, candidate_bytes, stored, decompose_if, decompose_filled, candidates_if, candidates_filled}
 
-pub candidate-bytes : (c : RootCandidate) {o x y : ℕ} → o ≡ origin_number c.origin → x ≡ bit c.known_word → y ≡ bit c.known_headword
-    → parts_bytes c.parts o (x + 2 * y) (c.score % 256) (c.score / 256) ≡ candidate_bytes c
-candidate-bytes c p q r = rw (p, q, r)
+pub candidate-bytes : (c : RootCandidate) {o x y : ℕ} {b : List ℕ} → o ≡ origin_number c.origin → x ≡ bit c.known_word → y ≡ bit c.known_headword
+    → c.score < 65536 → b ≡ to_le_bytes w16 c.score → parts_bytes c.parts o (x + 2 * y) (get_or b 0 0) (get_or b 1 0) ≡ candidate_bytes c
+candidate-bytes c p q r h f = let e : c.score / 256 % 256 ≡ c.score / 256 = omega arith in rw (p, q, r, f, e)
 
 pub morpheme-bytes : (m : Morpheme) {o : ℕ} → o ≡ origin_number m.origin → parts_bytes m.parts o 0 0 0 ≡ morpheme_bytes m
 morpheme-bytes m p = rw p
@@ -66,14 +70,39 @@ both e (p, q) = (p ∙ ap (λ (f : Filled). f.code) e, q ∙ ap (λ (f : Filled)
 pub same : {y : Filled} {code number : ℕ} {out : List ℕ} → record { code = number; buffer = out } ≡ y → code ≡ number → (code ≡ y.code) × (out ≡ y.buffer)
 same e p = (p ∙ ap (λ (f : Filled). f.code) e, ap (λ (f : Filled). f.buffer) e)
 
--- six bytes stored behind the 22 at the front: `now` holds those, and `part` is what stands there then
+-- `k` bytes stored behind the `n` at the front: `now` holds those, and `part` is what stands there then
+pub stored_behind : (n k : ℕ) (front tail old now part : List ℕ) → now ≡ front ++ drop n old → length front ≡ n → part ≡ tail
+    → put_mid n k now part ≡ (front ++ tail) ++ drop (n + k) old
+stored_behind n k front tail old now part e f p =
+    let t : take n now ≡ front = ap (take n) e ∙ take_at front (drop n old) n f in
+    let u : drop n now ≡ drop n old = ap (drop n) e ∙ drop_at front (drop n old) n f in
+    ap (λ (l : List ℕ). take n now ++ (l ++ drop k (drop n now))) p
+    ∙ ap (λ (l : List ℕ). take n now ++ (tail ++ drop k l)) u
+    ∙ ap (λ (l : List ℕ). take n now ++ (tail ++ l)) (drop-drop k n old)
+    ∙ ap (λ (l : List ℕ). l ++ (tail ++ drop (n + k) old)) t
+    ∙ sym (append_assoc front tail (drop (n + k) old))
+
+-- six bytes behind the 22 of a reading
 pub behind-front : (front tail old now part : List ℕ) → now ≡ front ++ drop 22 old → length front ≡ 22 → part ≡ tail
     → put_mid 22 6 now part ≡ (front ++ tail) ++ drop 28 old
-behind-front front tail old now part e n p =
-    let t : take 22 now ≡ front = ap (take 22) e ∙ take_at front (drop 22 old) 22 n in
-    let u : drop 22 now ≡ drop 22 old = ap (drop 22) e ∙ drop_at front (drop 22 old) 22 n in
-    ap (λ (l : List ℕ). take 22 now ++ (l ++ drop 6 (drop 22 now))) p
-    ∙ ap (λ (l : List ℕ). take 22 now ++ (tail ++ drop 6 l)) u
-    ∙ ap (λ (l : List ℕ). take 22 now ++ (tail ++ l)) (drop-drop 6 22 old)
-    ∙ ap (λ (l : List ℕ). l ++ (tail ++ drop 28 old)) t
-    ∙ sym (append_assoc front tail (drop 28 old))
+behind-front = stored_behind 22 6
+
+-- all elements of a list, one by one
+cells-behind : (n i x : ℕ) (xs : List ℕ) → cells n (suc i) (x ∷ xs) ≡ cells n i xs
+cells-behind zero i x xs = refl
+cells-behind (suc n) i x xs = ap (λ (ys : List ℕ). get_or xs i 0 ∷ ys) (cells-behind n (suc i) x xs)
+
+cells_all : (xs : List ℕ) → cells (length xs) 0 xs ≡ xs
+cells_all [] = refl
+cells_all (x ∷ xs) = ap (λ (ys : List ℕ). x ∷ ys) (cells-behind (length xs) 0 x xs ∙ cells_all xs)
+
+pub cells_full : (n : ℕ) (xs : List ℕ) → length xs ≡ n → cells n 0 xs ≡ xs
+cells_full n xs e = ap (λ (k : ℕ). cells k 0 xs) (sym e) ∙ cells_all xs
+
+-- parts, and the 24 places for suffix rows behind them
+pub parts-stored : (p : Parts) (a b c d : ℕ) (old now part : List ℕ) → length p.suffixes ≡ 24
+    → now ≡ (p.start ∷ p.end ∷ p.prefix ∷ p.prefix_count ∷ p.suffix_count ∷ a ∷ b ∷ c ∷ d ∷ []) ++ drop 9 old → part ≡ p.suffixes
+    → put_mid 9 24 now part ≡ parts_bytes p a b c d ++ drop 33 old
+parts-stored p a b c d old now part l e f =
+    let front = p.start ∷ p.end ∷ p.prefix ∷ p.prefix_count ∷ p.suffix_count ∷ a ∷ b ∷ c ∷ d ∷ [] in
+    stored_behind 9 24 front p.suffixes old now part e refl f ∙ ap (λ (xs : List ℕ). (front ++ xs) ++ drop 33 old) (sym (cells_full 24 p.suffixes l))

@@ -1,6 +1,6 @@
 -- What the static library's functions give can be read back as the C header does (specs/Read): the parts of a code, and the rows of
 -- readings, candidates and decompositions. Assumes nothing.
-use Rattle.std.specs.Prelude.{Err, Ok, Result}
+use Rattle.std.specs.Prelude.{Err, Ok, Result, Option, Some, None}
 use Prim.Native.Nat.{ℕ, zero, suc, ◌+◌, ◌*◌, ◌/◌, ◌%◌, ◌≤◌, ◌<◌}
 use native.Mathlib.Omega.{arith}
 use native.Mathlib.Nat.{mul-suc, mul-zero, not-suc-le-zero, le_of_suc-le-suc}
@@ -51,7 +51,7 @@ use Rattle.exports.specs.Rows.{four_bytes, row_bytes, row_width, each, rows_fill
 use Rattle.exports.specs.Filled.{parts_bytes, morpheme_bytes, candidate_bytes, decompose_if, decompose_filled, candidates_if, candidates_filled}
 use Rattle.exports.proofs.Bounds.{SmallForm, answer_small}
 use Rattle.exports.proofs.Widths.{rows_long}
-use Rattle.exports.proofs.Put.{both, stored_long}
+use Rattle.exports.proofs.Put.{both, stored_long, cells_full}
 use Rattle.exports.proofs.Enough.{two_prefixes, four_segments, given_paths}
 use Rattle.exports.proofs.Places.{Full, FullRow, Every, morpheme_full, roots_full}
 
@@ -96,12 +96,13 @@ parts_read : (b m l a : ℕ) → b ≤ 1 → m < 256 → l < 256 →
 parts_read b m l a hb hm hl = (omega arith, omega arith, omega arith, omega arith, omega arith)
 
 -- the main form ends in the word
-abbrev EndsInside : List ℕ → Result Progressive Refusal → Type 0
+abbrev EndsInside : List ℕ → Result (Option Progressive) Refusal → Type 0
 EndsInside w (Err r) = Unit {0}
-EndsInside w (Ok f) = f.main_end ≤ length w
+EndsInside w (Ok None) = Unit {0}
+EndsInside w (Ok (Some f)) = f.main_end ≤ length w
 
-form-inside : (w s : List ℕ) (o : Outcome) → (form_of s w o).main_end ≤ length w
-form-inside w s no = omega arith
+form-inside : (w s : List ℕ) (o : Outcome) → EndsInside w (Ok (form_of s w o))
+form-inside w s no = tt
 form-inside w s (yes name n) = omega arith
 
 answer_inside : (w s : List ℕ) → EndsInside w (answer_of w s)
@@ -123,25 +124,23 @@ FormRead code f =
     × (lemma_at_of code ≡ f.lemma_at)
 
 -- so it does within the bounds of main form and lemma
-pub form_read : (f : Progressive) → f.found ≡ true → f.main_end ≤ word_limit → f.lemma_len ≤ 210 → FormRead (answered (form_value f)) f
-form_read f e h k =
+pub form_read : (f : Progressive) → f.main_end ≤ word_limit → f.lemma_len ≤ 210 → FormRead (answered (form_value (Some f))) f
+form_read f h k =
     let p = parts_read (bit f.negative) f.main_end f.lemma_len f.lemma_at (bit_small f.negative) (omega arith) (omega arith) in
     let v = 1 + 2 * bit f.negative + 4 * f.main_end + 1024 * f.lemma_len + 262144 * f.lemma_at in
     let a = answer_read v in
-    let z : form_value f ≡ v = rw e in
-    subst (λ (x : ℕ). FormRead (answered x) f) (sym z)
     (a.0, ap (λ (x : ℕ). x % 2) a.1 ∙ p.0, ap (λ (x : ℕ). x / 2 % 2) a.1 ∙ p.1, ap (λ (x : ℕ). x / 4 % 256) a.1 ∙ p.2, ap (λ (x : ℕ). x / 1024 % 256) a.1 ∙ p.3, ap (λ (x : ℕ). x / 262144) a.1 ∙ p.4)
 
 -- and so for every word and sheet, since answers keep to them
-pub progressive_read : (w s : List ℕ) (f : Progressive) → answer_of w s ≡ Ok f → f.found ≡ true → FormRead (progressive_code (answer_of w s)) f
-progressive_read w s f e t =
-    let n : SmallForm w s (Ok f) = subst (SmallForm w s) e (answer_small w s) in
-    let m : EndsInside w (Ok f) = subst (EndsInside w) e (answer_inside w s) in
-    subst (λ (a : Result Progressive Refusal). FormRead (progressive_code a) f) (sym e) (form_read f t (omega (arith, n, m)) n.2)
+pub progressive_read : (w s : List ℕ) (f : Progressive) → answer_of w s ≡ Ok (Some f) → FormRead (progressive_code (answer_of w s)) f
+progressive_read w s f e =
+    let n : SmallForm w s (Ok (Some f)) = subst (SmallForm w s) e (answer_small w s) in
+    let m : EndsInside w (Ok (Some f)) = subst (EndsInside w) e (answer_inside w s) in
+    subst (λ (a : Result (Option Progressive) Refusal). FormRead (progressive_code a) f) (sym e) (form_read f (omega (arith, n, m)) n.2)
 
 -- none was found
-pub no_form_read : (f : Progressive) → f.found ≡ false → answered (form_value f) ≡ 0
-no_form_read f e = rw e
+pub no_form_read : answered (form_value None) ≡ 0
+no_form_read = refl
 
 origin_small : (o : Origin) → origin_number o ≤ 3
 origin_small Tatsam = omega arith
@@ -255,17 +254,8 @@ cells_long : (n i : ℕ) (xs : List ℕ) → length (cells n i xs) ≡ n
 cells_long zero i xs = refl
 cells_long (suc n) i xs = ap suc (cells_long n (suc i) xs)
 
-cells-behind : (n i x : ℕ) (xs : List ℕ) → cells n (suc i) (x ∷ xs) ≡ cells n i xs
-cells-behind zero i x xs = refl
-cells-behind (suc n) i x xs = ap (λ (ys : List ℕ). get_or xs i 0 ∷ ys) (cells-behind n (suc i) x xs)
-
--- a list of n numbers is its first n
-cells_all : (xs : List ℕ) → cells (length xs) 0 xs ≡ xs
-cells_all [] = refl
-cells_all (x ∷ xs) = ap (λ (ys : List ℕ). x ∷ ys) (cells-behind (length xs) 0 x xs ∙ cells_all xs)
-
 cells-back : (xs rest : List ℕ) → length xs ≡ 24 → take 24 (cells 24 0 xs ++ rest) ≡ xs
-cells-back xs rest e = take_at (cells 24 0 xs) rest 24 (cells_long 24 0 xs) ∙ ap (λ (n : ℕ). cells n 0 xs) (sym e) ∙ cells_all xs
+cells-back xs rest e = take_at (cells 24 0 xs) rest 24 (cells_long 24 0 xs) ∙ cells_full 24 xs e
 
 parts_is : (p : Parts) {xs : List ℕ} → xs ≡ p.suffixes → record {
   start = p.start;

@@ -1,8 +1,7 @@
 -- How the static library's functions give their answers as numbers: the lowest byte of a code is the number of a refusal, 0 for an
 -- answer; above it stand the place that comes with a refusal, or the answer's value. Assumes nothing.
 use Rattle.origin.specs.declared.OriginDecision.{OriginDecision}
-use Rattle.std.specs.Prelude.{ℕ, ◌+◌, ◌*◌, ◌≤◌, Bool, true, false, List, [], ◌∷◌, Float, Err, Ok, Result}
-use Rattle.runs.specs.Runs.{pick}
+use Rattle.std.specs.Prelude.{ℕ, ◌+◌, ◌*◌, ◌≤◌, Bool, true, false, List, [], ◌∷◌, Float, Err, Ok, Result, Option, Some, None}
 use Rattle.refusals.specs.Refusals.{numbers_of}
 use Rattle.refusals.specs.declared.Refusal.{Refusal}
 use Rattle.text.specs.declared.word.WordFault.{WordFault}
@@ -41,10 +40,11 @@ bit false = 0
 
 -- the value of a form: 0 for none; else bit 0, the sign in bit 1, and where the main form ends, how long the lemma's name is and where
 -- it stands from bits 2, 10 and 18 on
-abbrev pub form_value : Progressive → ℕ
-form_value f = pick f.found (1 + 2 * bit f.negative + 4 * f.main_end + 1024 * f.lemma_len + 262144 * f.lemma_at) 0
+abbrev pub form_value : Option Progressive → ℕ
+form_value None = 0
+form_value (Some f) = 1 + 2 * bit f.negative + 4 * f.main_end + 1024 * f.lemma_len + 262144 * f.lemma_at
 
-abbrev pub progressive_code : Result Progressive Refusal → ℕ
+abbrev pub progressive_code : Result (Option Progressive) Refusal → ℕ
 progressive_code (Err r) = refusal_code r
 progressive_code (Ok form) = answered (form_value form)
 

@@ -1,7 +1,7 @@
 // The static library's functions: what Rust and C call. They take numbers and slices of numbers alone.
 #![tactic(auto)]
 
-ghost use Rattle.std.specs.Prelude.{◌≡◌, ◌+◌, ◌*◌, ◌≤◌};
+ghost use Rattle.std.specs.Prelude.{Some, ◌≡◌, ◌+◌, ◌*◌, ◌≤◌};
 ghost use Rattle.text.specs.Word.{word_check, word_limit};
 ghost use Rattle.sheet.specs.Limits.{sheet_limit};
 ghost use Rattle.sheet.specs.Lines.{sheet_check};
@@ -30,6 +30,7 @@ pub mod parts;
 pub mod references;
 pub mod rescue;
 pub mod rows;
+mod stored;
 pub mod surface;
 pub mod tokens;
 pub mod visits;
@@ -75,15 +76,12 @@ fn yes_code(yes: bool) -> u64
     256 * u64::from(yes)
 }
 
-// A form as an answer: 0 for none; else bit 0 of its value, the sign in bit 1, 8 bits for the end of the main form, 8 for the length of
-// the lemma's name and the rest for its place in the sheet.
+// A form as an answer: bit 0 of its value, the sign in bit 1, 8 bits for the end of the main form, 8 for the length of the lemma's name
+// and the rest for its place in the sheet.
 fn form_code(form: Progressive) -> u64
     requires { (form.main_end ≤ word_limit) × (form.lemma_len ≤ 210) × (form.lemma_at + form.lemma_len ≤ sheet_limit) }
-    ensures { result ≡ answered (form_value form) }
+    ensures { result ≡ answered (form_value (Some form)) }
 {
-    if !form.found {
-        return 0;
-    }
     let places = 4 * (form.main_end as u64)
         + 1024 * (form.lemma_len as u64)
         + 262144 * (form.lemma_at as u64);
@@ -93,14 +91,15 @@ fn form_code(form: Progressive) -> u64
     256 * (1 + places)
 }
 
-// The progressive form of the word, as `form_code` gives it; else the refusal. The auxiliary is the rest of the word after the main form.
+// The progressive form of the word, as `form_code` gives it, 0 for none; else the refusal. The auxiliary is the rest of the word after the main form.
 #[unsafe(no_mangle)]
 pub extern "C" fn yunthirel_progressive(word: &[u8], sheet: &[u8]) -> u64
     ensures { result ≡ progressive_code (answer_of word.now sheet.now) }
 {
     match analyze_progressive(word, sheet) {
         Err(refusal) => refusal_code(refusal),
-        Ok(form) => form_code(form),
+        Ok(None) => 0,
+        Ok(Some(form)) => form_code(form),
     }
 }
 

@@ -1,16 +1,15 @@
 // Decompositions and root candidates, stored in a lent buffer of bytes.
-ghost use Rattle.std.specs.Prelude.{◌≡◌, ◌++◌, ◌+◌, ◌*◌, ◌≤◌, ◌<◌, length, take, drop};
-ghost use Rattle.roots.specs.Lists.{rows_of, root_limit};
+ghost use Rattle.std.specs.Prelude.{◌≡◌, refl, ◌++◌, ◌≤◌, length, drop};
 ghost use Rattle.exports.specs.Codes.{bit, origin_number};
 ghost use Rattle.exports.specs.Filled.{parts_bytes, morpheme_bytes, candidate_bytes, stored, decompose_filled, candidate_width, candidates_filled};
-ghost use Rattle.exports.specs.Rows.{each, rows_filled};
 
+use crate::stored::{Row, put_rows};
 use crate::{origin_number, refusal_code};
 use decomposition::entries::decompose;
 use decomposition::{Morpheme, Parts};
 use refusals::Refusal;
+use roots::RootCandidate;
 use roots::entries::lookup_root_candidates;
-use roots::{RootCandidate, Roots};
 use tables::origins::Origin;
 
 // Parts and four bytes more, at the front of the buffer.
@@ -18,8 +17,7 @@ fn put_parts(p: Parts, a: u8, b: u8, c: u8, d: u8, out: &mut [u8])
     requires { 33 ≤ length out.old }
     ensures { out.new ≡ parts_bytes p a b c d ++ drop 33 out.old }
 {
-    let s = p.suffixes;
-    let all = [
+    let front = [
         p.start,
         p.end,
         p.prefix,
@@ -29,32 +27,9 @@ fn put_parts(p: Parts, a: u8, b: u8, c: u8, d: u8, out: &mut [u8])
         b,
         c,
         d,
-        s[0],
-        s[1],
-        s[2],
-        s[3],
-        s[4],
-        s[5],
-        s[6],
-        s[7],
-        s[8],
-        s[9],
-        s[10],
-        s[11],
-        s[12],
-        s[13],
-        s[14],
-        s[15],
-        s[16],
-        s[17],
-        s[18],
-        s[19],
-        s[20],
-        s[21],
-        s[22],
-        s[23],
     ];
-    out[..33].copy_from_slice(&all);
+    out[..9].copy_from_slice(&front);
+    out[9..33].copy_from_slice(&p.suffixes);
 }
 
 fn bit_of(b: bool) -> u8
@@ -69,42 +44,22 @@ pub(crate) fn origin_byte(origin: Origin) -> u8
     origin_number(origin) as u8
 }
 
-// A candidate, at the front of the buffer.
-fn put_candidate(c: RootCandidate, out: &mut [u8])
-    requires { 33 ≤ length out.old }
-    ensures { out.new ≡ candidate_bytes c ++ drop 33 out.old }
-{
-    let p = c.parts;
-    let o = c.origin;
-    let origin = origin_byte(o);
-    let known = bit_of(c.known_word) + 2 * bit_of(c.known_headword);
-    let low = (c.score % 256) as u8;
-    let high = (c.score / 256) as u8;
-    put_parts(p, origin, known, low, high, out);
-}
+// A candidate: its parts, origin, whether it is known, and score.
+impl Row for RootCandidate {
+    const WIDTH: usize = 33;
 
-// The first n candidates of the list one after the other, at the front of the buffer.
-fn put_candidates(list: Roots, n: usize, out: &mut [u8])
-    requires { (n ≤ root_limit) × (33 * n ≤ length out.old) }
-    ensures { out.new ≡ each candidate_bytes (take n list.rows) ++ drop (33 * n) out.old }
-{
-    for i in 0..n {
-        put_candidate(list.rows[i], &mut out[33 * i..]);
-    }
-}
+    ghost WIDTH = { candidate_width };
 
-// The list, at the front of the buffer, and the number of its rows; 8 where the buffer is too short.
-fn put_roots(list: Roots, out: &mut [u8]) -> u64
-    requires { list.count ≤ root_limit }
-    ensures { (result ≡ (rows_filled candidate_width candidate_bytes (rows_of list) out.old).code)
-        × (out.new ≡ (rows_filled candidate_width candidate_bytes (rows_of list) out.old).buffer) }
-{
-    let n = list.count;
-    if out.len() < 33 * n {
-        return refusal_code(Refusal::OutputTooShort);
+    ghost bytes = { candidate_bytes };
+
+    ghost wide = { λ c. refl };
+
+    fn put(self, out: &mut [u8]) {
+        let origin = origin_byte(self.origin);
+        let known = bit_of(self.known_word) + 2 * bit_of(self.known_headword);
+        let score = self.score.to_le_bytes();
+        put_parts(self.parts, origin, known, score[0], score[1], out);
     }
-    put_candidates(list, n, out);
-    256 * (n as u64)
 }
 
 // The word's root candidates in rank order, 33 bytes each, at the front of the buffer, and their number. Where nothing is stored, and
@@ -116,7 +71,7 @@ pub extern "C" fn yunthirel_candidates(word: &[u8], sheet: &[u8], out: &mut [u8]
 {
     match lookup_root_candidates(word, sheet) {
         Err(refusal) => refusal_code(refusal),
-        Ok(list) => put_roots(list, out),
+        Ok(list) => put_rows(list.as_slice(), out),
     }
 }
 
@@ -127,10 +82,8 @@ fn put_morpheme(m: Morpheme, out: &mut [u8]) -> u64
     if out.len() < 33 {
         return refusal_code(Refusal::OutputTooShort);
     }
-    let p = m.parts;
-    let o = m.origin;
-    let origin = origin_byte(o);
-    put_parts(p, origin, 0, 0, 0, out);
+    let origin = origin_byte(m.origin);
+    put_parts(m.parts, origin, 0, 0, 0, out);
     0
 }
 

@@ -1,28 +1,26 @@
 // The list of readings as rows of bytes, stored in a lent buffer one after the other. How a reading lies is said in `ranking::rows`;
 // behind it stand the numbers of its root's origin and of the source, and the bits of the confidence, the low byte first, so that a row
 // lies as a struct of C does.
-ghost use Rattle.std.specs.Prelude.{◌≡◌, Ok, ◌++◌, map, ◌≤◌, length, take, drop};
+ghost use Rattle.std.specs.Prelude.{◌≡◌, refl, Ok};
 ghost use Rattle.std.specs.Float.{binary32};
 ghost use Rattle.std.specs.Float.Ieee.{to_bits};
 ghost use Rattle.text.specs.Word.{word_check};
-ghost use Rattle.lookup.specs.Lexicons.{replies};
 ghost use Rattle.lookup.specs.Starts.{Room};
-ghost use Rattle.ranking.specs.Lists.{list_limit};
-ghost use Rattle.ranking.specs.Kept.{rows_in, kept_bytes};
-ghost use Rattle.paths.specs.Readings.{classified};
 ghost use Rattle.exports.specs.Codes.{source_number};
-ghost use Rattle.exports.specs.Rows.{row_bytes, row_width, rows_filled, readings_filled};
+ghost use Rattle.exports.specs.Rows.{row_bytes, row_width, readings_filled};
 
 use crate::parts::origin_byte;
+use crate::stored::{Row, put_rows};
 use crate::{refusal_code, source_number};
 use analysis::entry::keep_readings;
-use analysis::origins::classify_root;
+use analysis::origins::classify_rows;
 use lookup::lexicon::Lexicon;
 use lookup::lines::check_lines;
 use lookup::starts::Start;
 use origin::OriginSource;
-use ranking::rows::{KEPT, WIDTH, put_reading, row_at};
-use ranking::{Classified, LIMIT};
+use ranking::Classified;
+use ranking::kept::Kept;
+use ranking::rows::{WIDTH, put_reading};
 use refusals::Refusal;
 use sheet::limits::{ALL_STARTS, FEW_STARTS, SMALL_BYTES};
 use text::word::check_word;
@@ -46,42 +44,29 @@ fn bits_of(x: f32) -> u32
     f32::to_bits(x)
 }
 
-// A reading with its root's origin, at the front of the buffer.
-fn put_row(row: Classified, out: &mut [u8])
-    requires { row_width ≤ length out.old }
-    ensures { out.new ≡ row_bytes row ++ drop row_width out.old }
-{
-    let reading = row.reading;
-    let origin = row.origin;
-    let source = row.source;
-    let bits = bits_of(row.confidence);
-    let rest = [
-        origin_byte(origin),
-        source_byte(source),
-        (bits % 256) as u8,
-        (bits / 256 % 256) as u8,
-        (bits / 65536 % 256) as u8,
-        (bits / 16777216) as u8,
-    ];
-    put_reading(reading, out);
-    out[WIDTH..ROW].copy_from_slice(&rest);
-}
+// A reading with its root's origin.
+impl Row for Classified {
+    const WIDTH: usize = ROW;
 
-// The first n rows that the walk has kept, each with its root's origin, one after the other at the front of the buffer, and their number; 8
-// where the buffer is too short.
-fn put_rows(word: &[u8], sheet: &Lexicon<'_>, n: usize, kept: &[u8], out: &mut [u8]) -> u64
-    requires { (kept_bytes ≤ length kept.now) × (n ≤ list_limit) }
-    ensures { (result ≡ (rows_filled row_width row_bytes (map (classified (replies sheet.now) word.now) (take n (rows_in kept.now))) out.old).code)
-        × (out.new ≡ (rows_filled row_width row_bytes (map (classified (replies sheet.now) word.now) (take n (rows_in kept.now))) out.old).buffer) }
-{
-    if out.len() < ROW * n {
-        return refusal_code(Refusal::OutputTooShort);
+    ghost WIDTH = { row_width };
+
+    ghost bytes = { row_bytes };
+
+    ghost wide = { λ _. refl };
+
+    fn put(self, out: &mut [u8]) {
+        let bits = bits_of(self.confidence).to_le_bytes();
+        let rest = [
+            origin_byte(self.origin),
+            source_byte(self.source),
+            bits[0],
+            bits[1],
+            bits[2],
+            bits[3],
+        ];
+        put_reading(self.reading, out);
+        out[WIDTH..ROW].copy_from_slice(&rest);
     }
-    for i in 0..n {
-        let r = classify_root(word, sheet, row_at(kept, i));
-        put_row(r, &mut out[ROW * i..]);
-    }
-    256 * (n as u64)
 }
 
 // The readings of an accepted word by an accepted sheet.
@@ -90,13 +75,12 @@ fn rows_in(word: &[u8], sheet: &Lexicon<'_>, out: &mut [u8]) -> u64
     ensures { (result ≡ (readings_filled word.now sheet.now.bytes.now out.old).code)
         × (out.new ≡ (readings_filled word.now sheet.now.bytes.now out.old).buffer) }
 {
-    let mut kept: [u8; KEPT] = [0; KEPT];
-    let tally = keep_readings(word, sheet, &mut kept);
-    let n = tally.kept;
-    if LIMIT < n {
-        return refusal_code(Refusal::TooManyReadings);
+    let mut kept = Kept::new();
+    keep_readings(word, sheet, &mut kept);
+    match kept.rows() {
+        None => refusal_code(Refusal::TooManyReadings),
+        Some(rows) => put_rows(classify_rows(word, sheet, rows).as_slice(), out),
     }
-    put_rows(word, sheet, n, &kept, out)
 }
 
 // Those of an accepted word by any sheet, with a list that has room for the starts of its lines.
@@ -119,6 +103,8 @@ fn rows_by(word: &[u8], sheet: &[u8], starts: &mut [Start], out: &mut [u8]) -> u
 
 // The word's readings in rank order, 28 bytes each, at the front of the buffer, and their number. Where nothing is stored, and `out` is
 // as it was: the refusal, 8 for a buffer with less than 28 bytes for each. 1,792 bytes are always enough.
+//
+// The rows are stored straight from what the walk has kept: to hand out the list by value costs a short word a tenth more.
 #[unsafe(no_mangle)]
 pub extern "C" fn yunthirel_readings(word: &[u8], sheet: &[u8], out: &mut [u8]) -> u64
     ensures { (result ≡ (readings_filled word.now sheet.now out.old).code)

@@ -18,5 +18,5 @@ pub fn fill_candidates(
         × (out.new ≡ roots_output word.now sheet.now out.old) }
 {
     let list = lookup_root_candidates(word, sheet)?;
-    fill(&list.rows[..list.count], out)
+    fill(list.as_slice(), out)
 }

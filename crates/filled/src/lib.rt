@@ -29,8 +29,6 @@ pub fn fill_readings(word: &[u8], sheet: &[u8], out: &mut [Classified]) -> Resul
     ensures { (result ≡ filled_of word.now sheet.now (length out.old))
         × (out.new ≡ output_of word.now sheet.now out.old) }
 {
-    let analysis = analyze_affixes(word, sheet);
-    analysis.said?;
-    let list = analysis.list;
-    fill(&list.rows[..list.count], out)
+    let list = analyze_affixes(word, sheet).list?;
+    fill(list.as_slice(), out)
 }

@@ -15,25 +15,18 @@ use writing::write_refused;
 pub fn write_readings(word: &[u8], sheet: &[u8], out: &mut [u8]) -> Result<usize, Refusal>
     ensures { (result ≡ outcome_of word.now sheet.now out.old) × (out.new ≡ left_of word.now sheet.now out.old) × (length (readings_text word.now sheet.now) ≤ listing_room) }
 {
-    let analysis = analyze_affixes(word, sheet);
-    let said = analysis.said;
-    let list = analysis.list;
-    match said {
-        Err(refusal) => Err(refusal),
-        Ok(()) => write_listing(word, list, out),
-    }
+    let list = analyze_affixes(word, sheet).list?;
+    write_listing(word, &list, out)
 }
 
 // Writes what is printed for a word and a sheet: the list, or the line of the refusal. Too short a buffer is left as it was.
 pub fn print_readings(word: &[u8], sheet: &[u8], out: &mut [u8]) -> Result<usize, Refusal>
     ensures { Answer (readings_text word.now sheet.now) out.old out.new result × (length (readings_text word.now sheet.now) ≤ listing_room) }
 {
-    let analysis = analyze_affixes(word, sheet);
-    let said = analysis.said;
-    let list = analysis.list;
-    match said {
+    let answer = analyze_affixes(word, sheet).list;
+    match answer {
         Err(refusal) => write_refused(refusal, out),
-        Ok(()) => write_listing(word, list, out),
+        Ok(list) => write_listing(word, &list, out),
     }
 }
 

@@ -4,10 +4,9 @@ use Rattle.std.specs.Prelude.{None, Some}
 use mathlib.Core.Path.{◌≡◌, refl, sym, ap, subst, ◌∙◌}
 use mathlib.Core.Bool.{Bool, true, false}
 use mathlib.Core.List.{List, [], ◌∷◌, ◌++◌}
-use Prim.Native.Nat.{ℕ, zero, suc, ◌+◌, ◌-◌, ◌≤◌, ◌<◌}
+use Prim.Native.Nat.{ℕ, ◌+◌, ◌-◌, ◌≤◌, ◌<◌}
 use native.Mathlib.Omega.{arith}
 use lib.ListN.{length, take, drop, get_or, length-append, length-drop, length-take}
-use lib.Seq.{take_all, drop-drop, get_or-drop, get_or-take}
 use Rattle.runs.specs.Runs.{pick, same_text, cmp}
 use Rattle.std.specs.declared.cmp.Ordering.{Ordering}
 use Rattle.std.specs.declared.cmp.Ordering.TheVariants.{Less, Equal, Greater}
@@ -18,13 +17,13 @@ use Rattle.sheet.specs.Lines.{line_at}
 use Rattle.sheet.specs.Replies.{Reply, reply, Indexed}
 use Rattle.lookup.specs.declared.begins.Edge.{Edge}
 use Rattle.lookup.specs.declared.begins.Range.{Range}
-use Rattle.lookup.specs.Search.{place_in, judge}
+use Rattle.lookup.specs.Search.{place_in}
 use Rattle.lookup.specs.Begins.{headed_at, Begun, Edged, Ended}
 use Rattle.sheet.specs.Keys.{headed}
 use Rattle.sheet.proofs.Spaced.{head-parts}
-use Rattle.sheet.proofs.Accepted.{GoesUp, accepted_up, up_pair, up_drop, up_take}
-use Rattle.lookup.proofs.Halves.{place_up, place_down, place_here}
-use Rattle.lookup.proofs.Rounds.{take-between, empty_place}
+use Rattle.sheet.proofs.Accepted.{GoesUp, accepted_up, up_pair}
+use Rattle.lookup.proofs.Halves.{place_left}
+use Rattle.lookup.proofs.Rounds.{empty_place}
 use Rattle.lookup.proofs.Settled.{sought_placed}
 
 -- of two names the upper stands to the head no lower than the lower does
@@ -76,7 +75,7 @@ module _ (s : List ℕ) (letter : ℕ) (head : List ℕ) where
       ∙ ap (λ (y : Ordering). and_then y (cmp (drop (length (key_of letter head)) (key (line_at s at))) q)) (sym e ∙ f))
 
   module _ (starts : List ℕ) (x : Indexed s starts) where
-    up : GoesUp s [] starts
+    pub up : GoesUp s [] starts
     up = subst (λ (l : List ℕ). GoesUp s [] l) (sym x.listed) (accepted_up s x.accepted)
 
     pair : (i j : ℕ) → i < j → j < length starts → cmp (key (line_at s (get_or starts i 0))) (key (line_at s (get_or starts j 0))) ≡ Less
@@ -129,67 +128,19 @@ module _ (s : List ℕ) (letter : ℕ) (head : List ℕ) where
           and_then o (cmp (drop (length (key_of letter head)) (key (line_at s (get_or starts i 0)))) q) ≡ cmp (key (line_at s (get_or starts i 0))) asks
       order_of i o e = head_decides (get_or starts i 0) q _ o refl e
 
-      pub among : place_in s starts asks ≡ place_in s (drop r.lo (take r.hi starts)) asks
-      among = upper (stand r.hi (length starts)) ∙ lower r.lo refl
-        where
-          upper : Stand r.hi (length starts) → place_in s starts asks ≡ place_in s (take r.hi starts) asks
-          upper (Stand.below k) = place_down s asks [] starts r.hi up k (sym (order_of r.hi Greater (g.above k)))
-          upper (Stand.above k) = absurd (omega (arith, g.inside))
-          upper (Stand.alike k) = ap (λ (l : List ℕ). place_in s l asks) (sym (take_all r.hi starts (omega arith)))
+      -- the line before these stands below the question, and the line behind them above
+      pub asked_below : 0 < r.lo → cmp (key (line_at s (get_or starts (r.lo - 1) 0))) asks ≡ Less
+      asked_below h = sym (order_of (r.lo - 1) Less (g.below h))
 
-          lower : (n : ℕ) → r.lo ≡ n → place_in s (take r.hi starts) asks ≡ place_in s (drop n (take r.hi starts)) asks
-          lower zero e = refl
-          lower (suc n) e =
-              let b : headed_at s starts letter head n ≡ Less = ap (headed_at s starts letter head) (omega arith) ∙ g.below (omega arith) in
-              let w : get_or (take r.hi starts) n 0 ≡ get_or starts n 0 = get_or-take r.hi starts n 0 (omega (arith, g.ordered)) in
-              let l : n < length (take r.hi starts) = simp length-take (omega (arith, g.ordered, g.inside)) in
-              place_up s asks [] (take r.hi starts) n (up_take s [] r.hi starts up) l
-              (ap (λ (y : ℕ). cmp (key (line_at s y)) asks) w ∙ sym (order_of n Less b))
+      pub asked_above : r.hi < length starts → cmp (key (line_at s (get_or starts r.hi 0))) asks ≡ Greater
+      asked_above h = sym (order_of r.hi Greater (g.above h))
+
+      pub among : place_in s starts asks ≡ place_in s (drop r.lo (take r.hi starts)) asks
+      among = place_left s asks starts up r.lo r.hi g.ordered g.inside asked_below asked_above
 
       -- such a line begins so
       pub begun_at : (i at : ℕ) → r.lo ≤ i → i < r.hi → at ≡ get_or starts i 0 → headed (key (line_at s at)) (key_of letter head) ≡ Equal
       begun_at i at a b w = ap (λ (z : ℕ). headed (key (line_at s z)) (key_of letter head)) w ∙ g.each i a b
-
-      -- one round, on the lines from number lo on that come before number hi
-      pub among_round : (lo hi mid at : ℕ) (y o : Ordering) → r.lo ≤ lo → lo ≤ mid → mid < hi → hi ≤ r.hi → at ≡ get_or starts mid 0 →
-          y ≡ cmp (key (line_at s at)) asks → y ≡ o →
-          place_in s (drop lo (take hi starts)) asks ≡
-          judge o (place_in s (drop (mid + 1) (take hi starts)) asks) (Some at) (place_in s (drop lo (take mid starts)) asks)
-      among_round lo hi mid at y o a b c d w e i = go o order
-        where
-          es : List ℕ
-          es = drop lo (take hi starts)
-
-          inside : hi ≤ length starts
-          inside = omega (arith, g.inside)
-
-          count : length es ≡ hi - lo
-          count = simp (length-drop, length-take) (omega (arith, inside))
-
-          here : get_or es (mid - lo) 0 ≡ at
-          here =
-              let m : lo + (mid - lo) ≡ mid = omega arith in
-              get_or-drop lo (take hi starts) (mid - lo) 0 ∙ ap (λ (z : ℕ). get_or (take hi starts) z 0) m ∙ get_or-take hi starts mid 0 (omega arith) ∙ sym w
-
-          order : cmp (key (line_at s (get_or es (mid - lo) 0))) asks ≡ o
-          order = ap (λ (z : ℕ). cmp (key (line_at s z)) asks) here ∙ sym e ∙ i
-
-          within : mid - lo < length es
-          within = omega (arith, count)
-
-          goes : GoesUp s [] es
-          goes = up_drop s [] lo (take hi starts) (up_take s [] hi starts up)
-
-          go : (v : Ordering) → cmp (key (line_at s (get_or es (mid - lo) 0))) asks ≡ v →
-              place_in s es asks ≡ judge v (place_in s (drop (mid + 1) (take hi starts)) asks) (Some at) (place_in s (drop lo (take mid starts)) asks)
-          go Less h =
-              let m : lo + suc (mid - lo) ≡ mid + 1 = omega arith in
-              place_up s asks [] es (mid - lo) goes within h
-              ∙ ap (λ (l : List ℕ). place_in s l asks) (drop-drop (suc (mid - lo)) lo (take hi starts) ∙ ap (λ (z : ℕ). drop z (take hi starts)) m)
-          go Equal h = place_here s asks [] es (mid - lo) goes within h ∙ ap Some here
-          go Greater h =
-              place_down s asks [] es (mid - lo) goes within h
-              ∙ ap (λ (l : List ℕ). place_in s l asks) (take-between lo (mid - lo) hi mid starts (omega arith) (omega arith))
 
       pub among_none : (lo hi : ℕ) → hi ≤ lo → place_in s (drop lo (take hi starts)) asks ≡ None
       among_none lo hi h = empty_place s asks (drop lo (take hi starts)) (simp (length-drop, length-take) (omega arith))

@@ -4,18 +4,19 @@ use Rattle.std.specs.Prelude.{None, Option, Some}
 use mathlib.Core.Path.{◌≡◌, refl, sym, ap, ◌∙◌}
 use mathlib.Core.Bool.{Bool, true, false}
 use mathlib.Core.List.{List, [], ◌∷◌, map, Memᴰ}
-use Prim.Native.Nat.{ℕ, zero, suc, ◌<◌}
+use Prim.Native.Nat.{ℕ, zero, suc, ◌-◌, ◌≤◌, ◌<◌}
 use native.Mathlib.Omega.{arith}
-use lib.ListN.{length, take, drop, get_or}
+use lib.ListN.{length, take, drop, get_or, length-take}
+use lib.Seq.{take_all, get_or-take}
 use Rattle.runs.specs.Runs.{pick, same_text, cmp}
 use Rattle.std.specs.declared.cmp.Ordering.{Ordering}
 use Rattle.std.specs.declared.cmp.Ordering.TheVariants.{Less, Equal, Greater}
-use Rattle.runs.proofs.Ordered.{cmp_trans, cmp_turned, cmp_equal, same_cmp, same_true, is_equal, turned}
+use Rattle.runs.proofs.Ordered.{Stand, stand, cmp_trans, cmp_turned, cmp_equal, same_cmp, same_true, is_equal, turned}
 use Rattle.sheet.specs.Forms.{key}
 use Rattle.sheet.specs.Lines.{line_at}
 use Rattle.sheet.specs.Replies.{Reply, reply_in}
 use Rattle.lookup.specs.Search.{place_in, answer_at}
-use Rattle.sheet.proofs.Accepted.{GoesUp, up_above}
+use Rattle.sheet.proofs.Accepted.{GoesUp, up_above, up_take}
 
 module _ (s q : List ℕ) where
   -- a line that is not the question's is passed over, and the question's line is the answer
@@ -60,6 +61,27 @@ module _ (s q : List ℕ) where
       let k : cmp (key (line_at s at)) q ≡ Less =
       ap (λ (x : List ℕ). cmp (key (line_at s at)) x) (sym z) ∙ up_above s (key (line_at s at)) places m g.2 (omega arith) in
       place_other at places Less k refl ∙ place_here (key (line_at s at)) places m g.2 (omega arith) e
+
+  -- the question's line stands among those from number lo on, before number hi, where the line before them stands below the question and
+  -- the line behind them above
+  pub place_left : (places : List ℕ) → GoesUp s [] places → (lo hi : ℕ) → lo ≤ hi → hi ≤ length places
+      → (0 < lo → cmp (key (line_at s (get_or places (lo - 1) 0))) q ≡ Less) → (hi < length places → cmp (key (line_at s (get_or places hi 0))) q ≡ Greater)
+      → place_in s places q ≡ place_in s (drop lo (take hi places)) q
+  place_left places up lo hi o l below above = upper (stand hi (length places)) ∙ lower lo refl
+    where
+      upper : Stand hi (length places) → place_in s places q ≡ place_in s (take hi places) q
+      upper (Stand.below k) = place_down [] places hi up k (above k)
+      upper (Stand.above k) = absurd (omega arith)
+      upper (Stand.alike k) = ap (λ (l : List ℕ). place_in s l q) (sym (take_all hi places (omega arith)))
+
+      lower : (n : ℕ) → lo ≡ n → place_in s (take hi places) q ≡ place_in s (drop n (take hi places)) q
+      lower zero e = refl
+      lower (suc n) e =
+          let m : lo - 1 ≡ n = omega arith in
+          let b : cmp (key (line_at s (get_or places n 0))) q ≡ Less = ap (λ (x : ℕ). cmp (key (line_at s (get_or places x 0))) q) (sym m) ∙ below (omega arith) in
+          let w : get_or (take hi places) n 0 ≡ get_or places n 0 = get_or-take hi places n 0 (omega arith) in
+          let h : n < length (take hi places) = simp length-take (omega arith) in
+          place_up [] (take hi places) n (up_take s [] hi places up) h (ap (λ (y : ℕ). cmp (key (line_at s y)) q) w ∙ b)
 
   -- the line found replies what the list of the lines replies, and has the question's key
   pub place_replies : (places : List ℕ) → answer_at s (place_in s places q) ≡ reply_in (map (line_at s) places) q

@@ -1,7 +1,9 @@
 pub mod Count
 pub mod Halves
 pub mod Rounds
+pub mod Halving
 pub mod Settled
+pub mod Edges
 pub mod Begun
 pub mod Parts
 pub mod Promises

@@ -1,5 +1,6 @@
 -- Two sheets that reply alike to a question get the same answer to it: letters, infinitive, kind. The contracts of
 -- `letters_of`, `link_of` and `kind_of` say that the code gives these. Assumes nothing.
+use Rattle.std.specs.Prelude.{Option}
 use mathlib.Core.Path.{◌≡◌, sym, ap, ◌∙◌}
 use mathlib.Core.List.{List}
 use Prim.Native.Nat.{ℕ}
@@ -16,10 +17,10 @@ module _ (s t : List ℕ) (name : List ℕ) where
   unfolding Alike kind_for
   same_kind h = ap kind_told h
 
-  pub same_value : (letter : ℕ) (a b : Spot) → Alike s t letter name → ValueOf s letter name a → ValueOf t letter name b → text_at s a ≡ text_at t b
+  pub same_value : (letter : ℕ) (a b : Option Spot) → Alike s t letter name → ValueOf s letter name a → ValueOf t letter name b → text_at s a ≡ text_at t b
   unfolding Alike
   same_value letter a b h k l = k.reads ∙ h ∙ sym l.reads
 
-  pub same_name : (letter : ℕ) (a b : Spot) → Alike s t letter name → NameOf s letter name a → NameOf t letter name b → text_at s a ≡ text_at t b
+  pub same_name : (letter : ℕ) (a b : Option Spot) → Alike s t letter name → NameOf s letter name a → NameOf t letter name b → text_at s a ≡ text_at t b
   unfolding Alike
   same_name letter a b h k l = k.reads ∙ ap (named name) h ∙ sym l.reads

@@ -11,11 +11,18 @@ use Rattle.sheet.specs.Forms.{is_form, key_of}
 use Rattle.sheet.specs.Lines.{starts_of}
 use Rattle.sheet.specs.Replies.{reply, Indexed}
 use Rattle.sheet.specs.Limits.{enough_rounds}
-use Rattle.lookup.specs.Search.{asked, place_in, place_of, answer_at, Placed, Sought}
-use Rattle.sheet.proofs.Accepted.{accepted_up, up_form, up_member}
+use Rattle.lookup.specs.Search.{double, asked, place_in, place_of, answer_at, Placed, Sought}
+use Rattle.sheet.proofs.Accepted.{GoesUp, accepted_up, up_form, up_member}
 use Rattle.lookup.proofs.Halves.{place_replies, place_asks}
-use Rattle.lookup.proofs.Rounds.{enough, double}
+use Rattle.lookup.proofs.Rounds.{enough}
 use Rattle.lookup.proofs.Count.{few-lines}
+
+-- the lines of an indexed sheet go up
+pub indexed_up : (s starts : List ℕ) → Indexed s starts → GoesUp s [] starts
+indexed_up s starts x = subst (λ (l : List ℕ). GoesUp s [] l) (sym x.listed) (accepted_up s x.accepted)
+
+pub indexed_few : (s starts : List ℕ) → Indexed s starts → length starts < double enough_rounds
+indexed_few s starts x = rw x.listed (omega (arith, few-lines s x.accepted))
 
 -- a form stands at each stored start
 pub indexed-form : (s starts : List ℕ) (i : ℕ) → Indexed s starts → i < length starts → is_form (drop (get_or starts i 0) s) ≡ true

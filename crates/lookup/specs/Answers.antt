@@ -1,5 +1,5 @@
 -- Parts of a sheet that a question's line holds, and the kind that a sheet gives a suffix. Assumes nothing.
-use Rattle.std.specs.Prelude.{ℕ, ◌+◌, ◌≤◌, ◌≡◌, true, false, List, [], ◌∷◌, length, take, drop, None, Option, Some}
+use Rattle.std.specs.Prelude.{ℕ, ◌+◌, ◌≤◌, ◌≡◌, true, List, [], ◌∷◌, length, take, drop, None, Option, Some}
 use Rattle.runs.specs.Runs.{pick, same_text}
 use Rattle.sheet.specs.Forms.{is_form}
 use Rattle.sheet.specs.Lines.{line_at}
@@ -7,25 +7,28 @@ use Rattle.sheet.specs.Steps.{name_end}
 use Rattle.sheet.specs.Replies.{Reply, unknown, told, reply}
 use Rattle.lookup.specs.declared.answers.Spot.{Spot}
 use Rattle.lookup.specs.declared.answers.SheetKind.{SheetKind}
-use Rattle.lookup.specs.declared.answers.SheetKind.TheVariants.{Unlisted, Post, Comp}
+use Rattle.lookup.specs.declared.answers.SheetKind.TheVariants.{Post, Comp}
 use Rattle.lookup.specs.Search.{place_of}
 
--- what a part of the sheet reads
-abbrev pub text_at : List ℕ → Spot → Reply
-text_at s r = pick r.found (told (take r.len (drop r.at s))) unknown
+-- what a part of the sheet reads, where there is one
+abbrev pub text_at : List ℕ → Option Spot → Reply
+text_at s None = unknown
+text_at s (Some r) = told (take r.len (drop r.at s))
 
-abbrev pub no_spot : Spot
-no_spot = record { found = false; at = 0; len = 0 }
+-- it lies in the sheet
+abbrev pub SpotIn : List ℕ → Option Spot → Type 0
+SpotIn s None = Unit {0}
+SpotIn s (Some r) = r.at + r.len ≤ length s
 
 -- where the value stands in the line found
-abbrev pub value_spot : List ℕ → Option ℕ → Spot
-value_spot s None = no_spot
-value_spot s (Some at) = record { found = true; at = name_end s at + 2; len = length (line_at s at).value }
+abbrev pub value_spot : List ℕ → Option ℕ → Option Spot
+value_spot s None = None
+value_spot s (Some at) = Some (record { at = name_end s at + 2; len = length (line_at s at).value })
 
 -- where the name stands in the line found
-abbrev pub name_spot : List ℕ → Option ℕ → Spot
-name_spot s None = no_spot
-name_spot s (Some at) = record { found = true; at = at + 3; len = length (line_at s at).name }
+abbrev pub name_spot : List ℕ → Option ℕ → Option Spot
+name_spot s None = None
+name_spot s (Some at) = Some (record { at = at + 3; len = length (line_at s at).name })
 
 -- a form stands where a line was found
 abbrev pub FormAt : List ℕ → Option ℕ → Type 0
@@ -33,10 +36,10 @@ FormAt s None = Unit {0}
 FormAt s (Some at) = is_form (drop at s) ≡ true
 
 -- the part that holds the value of the question's line: settled, read as the sheet replies, and inside the sheet
-pub record ValueOf (s : List ℕ) (letter : ℕ) (name : List ℕ) (r : Spot) : Type 0 where
+pub record ValueOf (s : List ℕ) (letter : ℕ) (name : List ℕ) (r : Option Spot) : Type 0 where
   pub settled : r ≡ value_spot s (place_of s letter name)
   pub reads : text_at s r ≡ reply s letter name
-  pub inside : r.at + r.len ≤ length s
+  pub inside : SpotIn s r
 
 -- the question's name, where the sheet has a line for it
 abbrev pub named : List ℕ → Reply → Reply
@@ -44,19 +47,19 @@ named name unknown = unknown
 named name (told v) = told name
 
 -- the part that holds the name of the question's line
-pub record NameOf (s : List ℕ) (letter : ℕ) (name : List ℕ) (r : Spot) : Type 0 where
+pub record NameOf (s : List ℕ) (letter : ℕ) (name : List ℕ) (r : Option Spot) : Type 0 where
   pub settled : r ≡ name_spot s (place_of s letter name)
   pub reads : text_at s r ≡ named name (reply s letter name)
-  pub inside : r.at + r.len ≤ length s
+  pub inside : SpotIn s r
 
 -- the kind that a value spells: `post`, else `comp`, since a form spells no other
 abbrev pub post : List ℕ
 post = 0x70 ∷ 0x6F ∷ 0x73 ∷ 0x74 ∷ []
 
-abbrev pub kind_told : Reply → SheetKind
-kind_told unknown = Unlisted
-kind_told (told v) = pick (same_text v post) Post Comp
+abbrev pub kind_told : Reply → Option SheetKind
+kind_told unknown = None
+kind_told (told v) = Some (pick (same_text v post) Post Comp)
 
--- the kind that the sheet gives a suffix
-unfoldable pub kind_for : List ℕ → List ℕ → SheetKind
+-- the kind that the sheet gives a suffix, none where it has no kind line for it
+unfoldable pub kind_for : List ℕ → List ℕ → Option SheetKind
 kind_for s name = kind_told (reply s 0x6B name)

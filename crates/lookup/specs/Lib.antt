@@ -4,5 +4,6 @@ pub mod Answers
 pub mod Lexicons
 pub mod Starts
 pub mod Search
+pub mod Halved
 pub mod Begins
 pub mod Stored

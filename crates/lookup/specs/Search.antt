@@ -1,5 +1,5 @@
 -- A search by halves: what it finds, in how many rounds, and what its answer says of the sheet. Assumes nothing.
-use Rattle.std.specs.Prelude.{ℕ, zero, suc, ◌/◌, ◌≡◌, true, length, take, drop, get_or, eqb, None, Option, Some}
+use Rattle.std.specs.Prelude.{ℕ, zero, suc, ◌+◌, ◌/◌, ◌≡◌, true, length, take, drop, get_or, eqb, None, Option, Some}
 use mathlib.Core.List.{List, [], ◌∷◌, Memᴰ}
 use Rattle.runs.specs.Runs.{pick, same_text, cmp}
 use Rattle.std.specs.declared.cmp.Ordering.{Ordering}
@@ -23,6 +23,11 @@ abbrev pub judge : Ordering → Option ℕ → Option ℕ → Option ℕ → Opt
 judge Less up here down = up
 judge Equal up here down = here
 judge Greater up here down = down
+
+-- two to the k
+abbrev pub double : ℕ → ℕ
+double zero = 1
+double (suc k) = double k + double k
 
 -- the line with the key q, asked in at most k rounds, each of which compares one line: the middle one of those left
 unfoldable pub asked : ℕ → List ℕ → List ℕ → List ℕ → Option ℕ

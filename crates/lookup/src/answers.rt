@@ -1,9 +1,9 @@
 // What an accepted sheet replies to the questions that are asked of it: the letters of a name, the infinitive of a link, the
 // kind of a suffix, and the place of a name.
-ghost use Rattle.std.specs.Prelude.{◌≡◌, ◌++◌, ◌+◌, ◌≤◌, length};
+ghost use Rattle.std.specs.Prelude.{◌≡◌, ◌++◌};
 ghost use Rattle.sheet.specs.Replies.{letters_told, letters_for};
 ghost use Rattle.lookup.specs.Begins.{Begun};
-ghost use Rattle.lookup.specs.Answers.{FormAt, value_spot, text_at, ValueOf, NameOf, kind_for};
+ghost use Rattle.lookup.specs.Answers.{FormAt, value_spot, text_at, SpotIn, ValueOf, NameOf, kind_for};
 
 use crate::begins::Range;
 use crate::lexicon::Lexicon;
@@ -11,51 +11,39 @@ use runs::same;
 use sheet::letters::{Letters, read_letters};
 use sheet::line::{name_end, value_end};
 
-// A part of the sheet: `len` bytes from byte `at` on, or none, which is 0 bytes at 0.
+// A part of the sheet: `len` bytes from byte `at` on.
 #[derive(Clone, Copy)]
 pub struct Spot {
-    pub found: bool,
     pub at: usize,
     pub len: usize,
 }
 
-// What a sheet says of a suffix.
-#[derive(Clone, Copy)]
+// What a kind line of a sheet says of its suffix.
+#[derive(Clone, Copy, Debug, PartialEq, Eq)]
 pub enum SheetKind {
-    Unlisted,
     Post,
     Comp,
 }
 
-// Where the value stands in the line that a search has found.
-fn value_at(sheet: &[u8], line: Option<usize>) -> Spot
+// Where the value stands in the line that a search has found, if it has.
+fn value_at(sheet: &[u8], line: Option<usize>) -> Option<Spot>
     requires { FormAt sheet.now line }
-    ensures { (result ≡ value_spot sheet.now line) × (result.at + result.len ≤ length sheet.now) }
+    ensures { (result ≡ value_spot sheet.now line) × SpotIn sheet.now result }
 {
-    let Some(at) = line else {
-        return Spot {
-            found: false,
-            at: 0,
-            len: 0,
-        };
-    };
+    let at = line?;
     let end = name_end(sheet, at);
     let from = end + 2;
     let to = value_end(sheet, at, end);
     let len = to - from;
-    Spot {
-        found: true,
-        at: from,
-        len,
-    }
+    Some(Spot { at: from, len })
 }
 
 // The letters that a value spells, none where there is no line.
-fn letters_at(sheet: &[u8], v: Spot) -> Letters
-    requires { v.at + v.len ≤ length sheet.now }
+fn letters_at(sheet: &[u8], v: Option<Spot>) -> Letters
+    requires { SpotIn sheet.now v }
     ensures { result ≡ letters_told (text_at sheet.now v) }
 {
-    if !v.found {
+    let Some(v) = v else {
         return Letters {
             word: false,
             head: false,
@@ -64,66 +52,51 @@ fn letters_at(sheet: &[u8], v: Spot) -> Letters
             spelled: false,
             tag: None,
         };
-    }
+    };
     let at = v.at;
     let end = at + v.len;
     read_letters(&sheet[at..end])
 }
 
 impl Lexicon<'_> {
-    // Where the value of the line for `letter` and the name that `p` and then `q` make stands in the sheet.
-    pub fn value_of(&self, letter: u8, p: &[u8], q: &[u8]) -> Spot
+    // Where the value of the line for `letter` and the name that `p` and then `q` make stands in the sheet, if it has that line.
+    pub fn value_of(&self, letter: u8, p: &[u8], q: &[u8]) -> Option<Spot>
         ensures { ValueOf self.now.bytes.now letter (p.now ++ q.now) result }
     {
         let search = self.seek(letter, p, q);
-        let line = search.found;
-        value_at(self.bytes, line)
+        value_at(self.bytes, search.found)
     }
 
-    // Where the name that `p` and then `q` make stands in its own `w` line.
-    pub fn spot_of(&self, p: &[u8], q: &[u8]) -> Spot
+    // Where the name that `p` and then `q` make stands in its own `w` line, if it has one.
+    pub fn spot_of(&self, p: &[u8], q: &[u8]) -> Option<Spot>
         ensures { NameOf self.now.bytes.now 0x77 (p.now ++ q.now) result }
     {
         let search = self.seek(b'w', p, q);
-        let line = search.found;
-        let Some(at) = line else {
-            return Spot {
-                found: false,
-                at: 0,
-                len: 0,
-            };
-        };
+        let at = search.found?;
         let from = at + 3;
         let end = name_end(self.bytes, at);
         let len = end - from;
-        Spot {
-            found: true,
-            at: from,
-            len,
-        }
+        Some(Spot { at: from, len })
     }
 
-    // Where the infinitive of a link stands, or that the sheet has no line for the link.
-    pub fn link_of(&self, name: &[u8]) -> Spot
+    // Where the infinitive of a link stands, if the sheet has a line for the link.
+    pub fn link_of(&self, name: &[u8]) -> Option<Spot>
         ensures { ValueOf self.now.bytes.now 0x6C name.now result }
     {
         self.value_of(b'l', name, b"")
     }
 
-    // The kind that the sheet gives a suffix.
-    pub fn kind_of(&self, name: &[u8]) -> SheetKind
+    // The kind that the sheet gives a suffix, where it has a kind line for it.
+    pub fn kind_of(&self, name: &[u8]) -> Option<SheetKind>
         ensures { result ≡ kind_for self.now.bytes.now name.now }
     {
-        let v = self.value_of(b'k', name, b"");
-        if !v.found {
-            return SheetKind::Unlisted;
-        }
+        let v = self.value_of(b'k', name, b"")?;
         let at = v.at;
         let end = at + v.len;
         if same(&self.bytes[at..end], b"post") {
-            SheetKind::Post
+            Some(SheetKind::Post)
         } else {
-            SheetKind::Comp
+            Some(SheetKind::Comp)
         }
     }
 

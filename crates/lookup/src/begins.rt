@@ -5,7 +5,6 @@ ghost use Rattle.lookup.specs.Search.{Sought};
 ghost use Rattle.lookup.specs.Begins.{Begun, Edged, Ended};
 
 use crate::lexicon::Lexicon;
-use crate::search::wide;
 use sheet::keys::{head_order, order_behind};
 use std::cmp::Ordering;
 
@@ -28,27 +27,17 @@ impl Lexicon<'_> {
     fn edge_of(&self, letter: u8, head: &[u8]) -> Edge
         ensures { Edged self.now.bytes.now self.now.starts.now letter head.now result }
     {
-        let mut lo: usize = 0;
-        let mut hi: usize = self.starts.len();
-        let mut top: usize = hi;
-        while lo < hi {
-            let mid = lo + (hi - lo) / 2;
-            let at = wide(self.starts[mid]);
-            let o = head_order(self.bytes, at, letter, head);
-            match o {
-                Ordering::Less => {
-                    lo = mid + 1;
-                }
-                Ordering::Equal => {
-                    hi = mid;
-                }
-                Ordering::Greater => {
-                    hi = mid;
-                    top = mid;
-                }
-            }
-        }
-        Edge { lo, top }
+        let seen = self.halved(0, self.starts.len(), |at| {
+            head_order(self.bytes, at, letter, head)
+        });
+        let top = seen.hi;
+        let Some(one) = seen.found else {
+            return Edge { lo: top, top };
+        };
+        let before = self.halved(seen.lo, one, |at| {
+            head_order(self.bytes, at, letter, head).then(Ordering::Greater)
+        });
+        Edge { lo: before.lo, top }
     }
 
     // The first line from number `from` on, before number `to`, that stands above all lines that begin so; `to` if there is none.
@@ -56,25 +45,10 @@ impl Lexicon<'_> {
         requires { (from ≤ to) × (to ≤ length self.now.starts.now) }
         ensures { Ended self.now.bytes.now self.now.starts.now letter head.now from to result }
     {
-        let mut lo: usize = from;
-        let mut hi: usize = to;
-        while lo < hi {
-            let mid = lo + (hi - lo) / 2;
-            let at = wide(self.starts[mid]);
-            let o = head_order(self.bytes, at, letter, head);
-            match o {
-                Ordering::Less => {
-                    lo = mid + 1;
-                }
-                Ordering::Equal => {
-                    lo = mid + 1;
-                }
-                Ordering::Greater => {
-                    hi = mid;
-                }
-            }
-        }
-        hi
+        let behind = self.halved(from, to, |at| {
+            head_order(self.bytes, at, letter, head).then(Ordering::Less)
+        });
+        behind.hi
     }
 
     // The lines of the letter whose names begin with `head`.
@@ -94,24 +68,9 @@ impl Lexicon<'_> {
         requires { Begun self.now.bytes.now self.now.starts.now letter p.now range }
         ensures { Sought self.now.bytes.now letter (p.now ++ q.now) result }
     {
-        let mut lo: usize = range.lo;
-        let mut hi: usize = range.hi;
-        while lo < hi {
-            let mid = lo + (hi - lo) / 2;
-            let at = wide(self.starts[mid]);
-            let o = order_behind(self.bytes, at, letter, p, q);
-            match o {
-                Ordering::Less => {
-                    lo = mid + 1;
-                }
-                Ordering::Equal => {
-                    return Some(at);
-                }
-                Ordering::Greater => {
-                    hi = mid;
-                }
-            }
-        }
-        None
+        let seen = self.halved(range.lo, range.hi, |at| {
+            order_behind(self.bytes, at, letter, p, q)
+        });
+        seen.found.map(|i| usize::from(self.starts[i]))
     }
 }

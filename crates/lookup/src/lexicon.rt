@@ -1,4 +1,4 @@
-// An accepted sheet with the first byte of each of its lines: what every question is asked of. `lines::prepare_sheet` stores the list of any
+// An accepted sheet with the first byte of each of its lines: what every question is asked of. `lines::check_lines` stores the list of any
 // sheet that is accepted; whoever has such a list from elsewhere can make a lexicon too.
 ghost use Rattle.sheet.specs.Replies.{Indexed};
 

@@ -2,6 +2,7 @@
 #![tactic(auto)]
 
 pub mod answers;
+pub mod asked;
 pub mod begins;
 pub mod lexicon;
 pub mod lines;

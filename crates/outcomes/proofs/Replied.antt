@@ -2,7 +2,7 @@
 -- form, as they give the same readings (analysis/proofs/Promises.same-answer). An accepted sheet has no line with an empty name, so what
 -- is asked of the empty word is settled too. Assumes nothing.
 use Rattle.refusals.specs.declared.Refusal.{Refusal}
-use Rattle.std.specs.Prelude.{Ok, Result}
+use Rattle.std.specs.Prelude.{Ok, Result, Option, Some, None}
 use Prim.Native.Nat.{ℕ, ◌<◌}
 use native.Mathlib.Omega.{arith}
 use mathlib.Core.Path.{◌≡◌, refl, sym, ap, ◌∙◌}
@@ -70,12 +70,12 @@ empty_unknown s letter ah = none_empty s [] (starts_of s) letter (accepted_up s 
 
 -- what a form says of the word: that there is one, where its main form ends, and its sign
 pub record InWord : Type 0 where
-  pub found : Bool
   pub ends : ℕ
   pub negative : Bool
 
-abbrev pub in_word : Progressive → InWord
-in_word p = record { found = p.found; ends = p.main_end; negative = p.negative }
+abbrev pub in_word : Option Progressive → Option InWord
+in_word None = None
+in_word (Some p) = Some (record { ends = p.main_end; negative = p.negative })
 
 module _ (s t w : List ℕ) (aw : word_check w ≡ Ok tt) (ah : sheet_check s ≡ Ok tt) (bh : sheet_check t ≡ Ok tt)
     (alike : (letter : ℕ) (name : List ℕ) → Own (reply s) w letter name → Alike s t letter name) where

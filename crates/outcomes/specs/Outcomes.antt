@@ -1,6 +1,5 @@
 -- What is asked in document 01's worked cases, and how an outcome is said there: by texts, labels and kinds. Assumes nothing.
-use Rattle.std.specs.Prelude.{ℕ, Bool, List, [], ◌∷◌, map, take, get_or, Err, Ok, Result}
-use Rattle.runs.specs.Runs.{pick}
+use Rattle.std.specs.Prelude.{ℕ, Bool, List, [], ◌∷◌, map, take, get_or, Err, Ok, Result, Option, Some, None}
 use Rattle.tables.specs.Rows.{prefix_labels, suffixes}
 use Rattle.tables.specs.Tables.{affixes}
 use Rattle.ranking.specs.Parts.{part}
@@ -74,9 +73,10 @@ list_of w (Ok _) rs = list (map (row_of w) rs)
 list_of w (Err r) rs = refused (said_numbers (Err r))
 
 -- what the analysis of a progressive form gives of the word w and the sheet s
-abbrev pub form_of : List ℕ → List ℕ → Result Progressive Refusal → Outcome
+abbrev pub form_of : List ℕ → List ℕ → Result (Option Progressive) Refusal → Outcome
 form_of w s (Err r) = refused (answer_numbers (Err r))
-form_of w s (Ok p) = pick p.found (form (part w 0 p.main_end) p.negative (lemma_part s (Ok p))) no_form
+form_of w s (Ok None) = no_form
+form_of w s (Ok (Some p)) = form (part w 0 p.main_end) p.negative (lemma_part s (Ok (Some p)))
 
 -- what decompose gives of the word w
 abbrev pub parts_of : List ℕ → Result Morpheme Refusal → Outcome

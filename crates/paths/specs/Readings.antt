@@ -1,6 +1,6 @@
 -- A reading is a stem, a root, prefix labels and suffix labels for which a path exists (document 01). Here: a path's reading as
 -- labels, and as the record that the code gives. Assumes nothing.
-use Rattle.std.specs.Prelude.{ℕ, ◌-◌, ◌≡◌, List, [], ◌++◌, map, reverse, length, take, get_or, replicate, ltb}
+use Rattle.std.specs.Prelude.{ℕ, ◌-◌, ◌≡◌, List, [], ◌++◌, map, reverse, length, take, get_or, replicate, ltb, Option, Some, None}
 use Rattle.runs.specs.Runs.{pick}
 use Rattle.text.specs.Characters.{chars}
 use Rattle.tables.specs.Rows.{prefix_labels}
@@ -8,7 +8,7 @@ use Rattle.tables.specs.Tables.{affixes}
 use Rattle.sheet.specs.Replies.{Ask}
 use Rattle.lookup.specs.Answers.{kind_told}
 use Rattle.lookup.specs.declared.answers.SheetKind.{SheetKind}
-use Rattle.lookup.specs.declared.answers.SheetKind.TheVariants.{Unlisted, Post, Comp}
+use Rattle.lookup.specs.declared.answers.SheetKind.TheVariants.{Post, Comp}
 use Rattle.ranking.specs.declared.AffixKind.{AffixKind}
 use Rattle.ranking.specs.declared.AffixKind.TheVariants.{Particle, CaseMarker, PluralMarker, Postposition, ComparisonMarker}
 use Rattle.ranking.specs.declared.Segment.{Segment}
@@ -45,10 +45,10 @@ abbrev pub group_kind : ℕ → AffixKind
 group_kind row = pick (ltb row 2) PluralMarker (pick (ltb row 18) CaseMarker Particle)
 
 -- a kind line of the sheet overrides the kind of its group
-abbrev pub overridden : SheetKind → AffixKind → AffixKind
-overridden Unlisted kind = kind
-overridden Post kind = Postposition
-overridden Comp kind = ComparisonMarker
+abbrev pub overridden : Option SheetKind → AffixKind → AffixKind
+overridden None kind = kind
+overridden (Some Post) kind = Postposition
+overridden (Some Comp) kind = ComparisonMarker
 
 abbrev pub kind_of : Ask → ℕ → AffixKind
 kind_of ask row = overridden (kind_told (ask 0x6B (get_or affixes row []))) (group_kind row)

@@ -34,10 +34,3 @@ pub struct Piece {
     pub rows: u8,
     pub times: u8,
 }
-
-// What the walk hands back: how many readings are kept, and how many entries of the source's walk were counted.
-#[derive(Clone, Copy)]
-pub struct Tally {
-    pub kept: usize,
-    pub visits: usize,
-}

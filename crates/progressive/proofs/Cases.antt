@@ -1,6 +1,6 @@
 -- The worked cases of document 01 for progressive forms, proved together: inputs and what `analyze_progressive` gives for them.
 -- Assumes nothing.
-use Rattle.std.specs.Prelude.{Err, Ok, Result}
+use Rattle.std.specs.Prelude.{Err, Ok, Result, Option, Some, None}
 use Rattle.refusals.specs.declared.Refusal.{Refusal}
 use Rattle.progressive.specs.declared.find.Progressive.{Progressive}
 use Prim.Native.Nat.{ℕ}
@@ -18,7 +18,6 @@ use Rattle.sheet.specs.Replies.{reply}
 use Rattle.refusals.specs.declared.Refusal.TheVariants.{SheetNoForm}
 use Rattle.lookup.specs.Search.{place_of}
 use Rattle.progressive.specs.Progressive.{regular, lemma_of, is_shaped, progressive_of}
-use Rattle.progressive.specs.Found.{no_form}
 use Rattle.progressive.specs.Answers.{answer_of}
 
 pub record Case : Type 0 where
@@ -66,11 +65,11 @@ inputs =
     []
 
 -- the lemma खानु, without and with न; no progressive form, since the link decides alone; an empty word with a faulty sheet
-pub outcomes : List (Result Progressive Refusal)
+pub outcomes : List (Result (Option Progressive) Refusal)
 outcomes =
-    Ok (record { found = true; main_end = 9; negative = false; lemma_at = 3; lemma_len = 12 }) ∷
-    Ok (record { found = true; main_end = 12; negative = true; lemma_at = 3; lemma_len = 12 }) ∷
-    Ok no_form ∷
+    Ok (Some (record { main_end = 9; negative = false; lemma_at = 3; lemma_len = 12 })) ∷
+    Ok (Some (record { main_end = 12; negative = true; lemma_at = 3; lemma_len = 12 })) ∷
+    Ok None ∷
     Err (SheetNoForm 0) ∷
     []
 

@@ -1,7 +1,7 @@
 -- What the entries hand back, by what is said of word and sheet. The proofs of `entry` cite it. Assumes nothing.
-use Rattle.std.specs.Prelude.{Bool, Err, Ok, Result}
-use mathlib.Core.Path.{◌≡◌, refl, sym, ap, ◌∙◌}
-use mathlib.Core.List.{List}
+use Rattle.std.specs.Prelude.{Bool, Err, Ok, Result, Option, Some, None, is_some}
+use mathlib.Core.Path.{◌≡◌, refl, sym, ap, subst, ◌∙◌}
+use mathlib.Core.List.{List, []}
 use Prim.Native.Nat.{ℕ, ◌+◌, ◌-◌, ◌≤◌}
 use native.Mathlib.Omega.{arith}
 use lib.ListN.{length, take, drop}
@@ -27,37 +27,42 @@ module _ (w s : List ℕ) where
   }
 
   -- a form that was found is given
-  pub given : (r : Progressive) → inputs_of w s ≡ Ok tt → FormAt s w r → Analyzed w s (Ok r)
+  pub given : (r : Option Progressive) → inputs_of w s ≡ Ok tt → FormAt s w r → Analyzed w s (Ok r)
   unfolding answer_of lemma_text
   given r i k = record {
     settled = ap Ok k.settled ∙ ap (λ (q : Result (Unit {0}) Refusal). answer_if q w s) (sym i);
     reads = k.reads ∙ ap (λ (q : Result (Unit {0}) Refusal). name_if q w s) (sym i);
-    lies = (k.inside, k.parted);
+    lies = k.lies;
     numbers = ap numbers_given (sym i) ∙ lowest w s;
   }
 
   -- the places of what was given lie in the sheet
-  pub given_inside : (a : Result Progressive Refusal) → Lies w s a → (form_given a).lemma_at + (form_given a).lemma_len ≤ length s
-  given_inside (Err r) l = omega arith
-  given_inside (Ok r) l = l.0
+  pub given_inside : (a : Result (Option Progressive) Refusal) (r : Progressive) → Analyzed w s a → a ≡ Ok (Some r) → r.lemma_at + r.lemma_len ≤ length s
+  given_inside a r k e = (subst (Lies w s) e k.lies).0
 
   -- the part that the lemma's places cut out of the sheet
-  pub part-given : (a : Result Progressive Refusal) (r : Progressive) → Analyzed w s a → r ≡ form_given a →
+  pub part-given : (a : Result (Option Progressive) Refusal) (r : Progressive) → Analyzed w s a → a ≡ Ok (Some r) →
       (take (r.lemma_at + r.lemma_len - r.lemma_at) (drop r.lemma_at s) ≡ part_at s (form_given (answer_of w s)))
       × (take (r.lemma_at + r.lemma_len - r.lemma_at) (drop r.lemma_at s) ≡ lemma_text w s)
   part-given a r k e =
       let p : r.lemma_at + r.lemma_len - r.lemma_at ≡ r.lemma_len = omega arith in
       let q : take (r.lemma_at + r.lemma_len - r.lemma_at) (drop r.lemma_at s) ≡ part_at s (form_given a) =
-      ap (λ (n : ℕ). take n (drop r.lemma_at s)) p ∙ ap (part_at s) e in
-      (q ∙ ap (λ (x : Result Progressive Refusal). part_at s (form_given x)) k.settled, q ∙ k.reads)
+      ap (λ (n : ℕ). take n (drop r.lemma_at s)) p ∙ ap (λ (x : Result (Option Progressive) Refusal). part_at s (form_given x)) (sym e) in
+      (q ∙ ap (λ (x : Result (Option Progressive) Refusal). part_at s (form_given x)) k.settled, q ∙ k.reads)
+
+  -- no part for none
+  pub part_none : (a : Result (Option Progressive) Refusal) → Analyzed w s a → form_given a ≡ None → ([] ≡ part_at s (form_given (answer_of w s))) × ([] ≡ lemma_text w s)
+  part_none a k e =
+      let q = ap (part_at s) (sym e) in
+      (q ∙ ap (λ (x : Result (Option Progressive) Refusal). part_at s (form_given x)) k.settled, q ∙ k.reads)
 
 -- an answer says whether a form is found
-abbrev pub support_given : Result Progressive Refusal → Result Bool Refusal
+abbrev pub support_given : Result (Option Progressive) Refusal → Result Bool Refusal
 support_given (Err r) = Err r
-support_given (Ok form) = Ok form.found
+support_given (Ok form) = Ok (is_some form)
 
 module _ (w s : List ℕ) where
-  pub support_settled : (r a : Result Progressive Refusal) → Analyzed w s r → r ≡ a → support_given a ≡ supported_of w s
+  pub support_settled : (r a : Result (Option Progressive) Refusal) → Analyzed w s r → r ≡ a → support_given a ≡ supported_of w s
   unfolding answer_of supported_of
   support_settled r a k e = ap support_given (sym e ∙ k.settled) ∙ by (inputs_of w s)
     where

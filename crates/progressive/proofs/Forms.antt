@@ -1,4 +1,5 @@
 -- What the found lemmas say of the progressive form of a word. The proof of `find_progressive` cites it. Assumes nothing.
+use Rattle.std.specs.Prelude.{Option, Some, None, is_some, unwrap_or}
 use mathlib.Core.Path.{◌≡◌, refl, sym, ap, ◌∙◌}
 use mathlib.Core.Bool.{Bool, true, false, ◌&&◌}
 use mathlib.Core.List.{List}
@@ -10,7 +11,7 @@ use Rattle.sheet.specs.Replies.{reply}
 use Rattle.lookup.specs.declared.answers.Spot.{Spot}
 use Rattle.progressive.specs.declared.find.Progressive.{Progressive}
 use Rattle.progressive.specs.Progressive.{rahanu, letter_na, is_verb, Lemma, lemma, lemma_of, Outcome, no, yes, first, negative, linked_of, stem_of, is_shaped, progressive_of, searched, is_yes, is_progressive}
-use Rattle.progressive.specs.Found.{LemmaAt, no_form, form_with, form_of, lemma_name, FormAt}
+use Rattle.progressive.specs.Found.{LemmaAt, form_with, form_of, lemma_name, FormAt}
 use Rattle.progressive.proofs.Verbs.{none_found, some-found}
 
 module _ (s w : List ℕ) where
@@ -34,54 +35,53 @@ module _ (s w : List ℕ) where
       ap (λ (b : Bool). pick (b && is_verb (reply s) rahanu) (searched (reply s) (linked_of w) (stem_of w)) no) e
       ∙ ap (λ (b : Bool). pick b (searched (reply s) (linked_of w) (stem_of w)) no) f
 
-  pub none-form : (r : Progressive) → progressive_of (reply s) w ≡ no → r ≡ no_form → FormAt s w r
-  none-form r e f = rw f (record { settled = ap (form_of s w) (sym e); reads = ap lemma_name (sym e); inside = omega arith; parted = omega arith })
+  pub none-form : progressive_of (reply s) w ≡ no → FormAt s w None
+  none-form e = record { settled = ap (form_of s w) (sym e); reads = ap lemma_name (sym e); lies = tt }
 
   -- the form whose lemma was found at r
-  some-form : (name : List ℕ) (n : Bool) (r : Spot) → progressive_of (reply s) w ≡ yes name n → LemmaAt s (lemma name) r → r.found ≡ true →
-      (x : Progressive) → x ≡ form_with (length w - 15) n r → FormAt s w x
-  some-form name n r e k f x g =
-      let q = some-found s r (lemma name) k f in
+  some-form : (name : List ℕ) (n : Bool) (r : Spot) → progressive_of (reply s) w ≡ yes name n → LemmaAt s (lemma name) (Some r) →
+      (x : Progressive) → x ≡ form_with (length w - 15) n r → FormAt s w (Some x)
+  some-form name n r e k x g =
+      let q = some-found s r (lemma name) k in
       let p : take r.len (drop r.at s) ≡ name = cc in
       rw g (record {
-        settled = ap (form_with (length w - 15) n) k.settled ∙ ap (form_of s w) (sym e);
+        settled = ap (λ x. Some (form_with (length w - 15) n (unwrap_or x (record { at = 0; len = 0 })))) k.settled ∙ ap (form_of s w) (sym e);
         reads = p ∙ ap lemma_name (sym e);
-        inside = k.inside;
-        parted = omega arith;
+        lies = (k.inside, omega arith);
       })
 
   module _ (o : progressive_of (reply s) w ≡ searched (reply s) (linked_of w) (stem_of w)) where
-    pub first_found : (r : Spot) → LemmaAt s (lemma_of (reply s) (linked_of w) (stem_of w)) r → r.found ≡ true →
-        (x : Progressive) → x ≡ form_with (length w - 15) false r → FormAt s w x
-    first_found r k f =
-        let q = some-found s r _ k f in
+    pub first_found : (r : Spot) → LemmaAt s (lemma_of (reply s) (linked_of w) (stem_of w)) (Some r) →
+        (x : Progressive) → x ≡ form_with (length w - 15) false r → FormAt s w (Some x)
+    first_found r k =
+        let q = some-found s r _ k in
         let t = take r.len (drop r.at s) in
-        some-form t false r (o ∙ ap (λ (l : Lemma). first l again) q) (rw q at k) f
+        some-form t false r (o ∙ ap (λ (l : Lemma). first l again) q) (rw q at k)
 
-    pub goes_again : (r : Spot) → LemmaAt s (lemma_of (reply s) (linked_of w) (stem_of w)) r → r.found ≡ false → progressive_of (reply s) w ≡ again
-    goes_again r k f = o ∙ ap (λ (l : Lemma). first l again) (none_found s r _ k f)
+    pub goes_again : LemmaAt s (lemma_of (reply s) (linked_of w) (stem_of w)) None → progressive_of (reply s) w ≡ again
+    goes_again k = o ∙ ap (λ (l : Lemma). first l again) (none_found s None _ k refl)
 
   pub no_na : progressive_of (reply s) w ≡ again → begins_with letter_na (stem_of w) ≡ false → progressive_of (reply s) w ≡ no
   no_na o e = o ∙ ap (λ (b : Bool). pick b (negative (lemma_of (reply s) (drop 3 (linked_of w)) (drop 3 (stem_of w)))) no) e
 
-  module _ (o : progressive_of (reply s) w ≡ again) (e : begins_with letter_na (stem_of w) ≡ true) (r : Spot)
-      (k : LemmaAt s (lemma_of (reply s) (drop 3 (linked_of w)) (drop 3 (stem_of w))) r) where
+  module _ (o : progressive_of (reply s) w ≡ again) (e : begins_with letter_na (stem_of w) ≡ true) where
     after_na : progressive_of (reply s) w ≡ negative (lemma_of (reply s) (drop 3 (linked_of w)) (drop 3 (stem_of w)))
     after_na = o ∙ ap (λ (b : Bool). pick b (negative (lemma_of (reply s) (drop 3 (linked_of w)) (drop 3 (stem_of w)))) no) e
 
-    pub second_none : r.found ≡ false → progressive_of (reply s) w ≡ no
-    second_none f = after_na ∙ ap negative (none_found s r _ k f)
+    pub second_none : LemmaAt s (lemma_of (reply s) (drop 3 (linked_of w)) (drop 3 (stem_of w))) None → progressive_of (reply s) w ≡ no
+    second_none k = after_na ∙ ap negative (none_found s None _ k refl)
 
-    pub second_found : r.found ≡ true → (x : Progressive) → x ≡ form_with (length w - 15) true r → FormAt s w x
-    second_found f =
-        let q = some-found s r _ k f in
+    pub second_found : (r : Spot) → LemmaAt s (lemma_of (reply s) (drop 3 (linked_of w)) (drop 3 (stem_of w))) (Some r) →
+        (x : Progressive) → x ≡ form_with (length w - 15) true r → FormAt s w (Some x)
+    second_found r k =
+        let q = some-found s r _ k in
         let t = take r.len (drop r.at s) in
-        some-form t true r (after_na ∙ ap negative q) (rw q at k) f
+        some-form t true r (after_na ∙ ap negative q) (rw q at k)
 
   -- a form is found where there is one
-  pub form-found : (o : Outcome) → (form_of s w o).found ≡ is_yes o
+  pub form-found : (o : Outcome) → is_some (form_of s w o) ≡ is_yes o
   form-found no = refl
   form-found (yes name n) = refl
 
-  pub found-form : (r : Progressive) → FormAt s w r → r.found ≡ is_progressive (reply s) w
-  found-form r k = ap (λ (x : Progressive). x.found) k.settled ∙ form-found (progressive_of (reply s) w)
+  pub found-form : (r : Option Progressive) → FormAt s w r → is_some r ≡ is_progressive (reply s) w
+  found-form r k = ap is_some k.settled ∙ form-found (progressive_of (reply s) w)

@@ -1,5 +1,6 @@
 -- What a part of the sheet that holds a lemma says of the lemma, and how the search goes from name to name.
 -- The proofs of `verb_at`, `regular_lemma`, `linked_verb`, `supported_infinitive` and `find_progressive` cite it. Assumes nothing.
+use Rattle.std.specs.Prelude.{Option, Some, None, is_some}
 use mathlib.Core.Path.{◌≡◌, refl, sym, ap, ◌∙◌}
 use mathlib.Core.Bool.{Bool, true, false, ◌||◌}
 use mathlib.Core.List.{List, [], ◌++◌, append-nil}
@@ -11,44 +12,47 @@ use Rattle.runs.specs.Runs.{pick, ends_in}
 use Rattle.sheet.specs.Forms.{syllable_nu}
 use Rattle.sheet.specs.Replies.{Reply, reply, letters_told}
 use Rattle.lookup.specs.declared.answers.Spot.{Spot}
-use Rattle.lookup.specs.Answers.{text_at, no_spot, named, NameOf}
+use Rattle.lookup.specs.Answers.{text_at, named, NameOf}
 use Rattle.progressive.specs.Progressive.{virama, sign_aa, letter_aa, letter_u, is_verb, Lemma, none, lemma, verb_or, regular, verb_told, decided, lemma_of}
 use Rattle.progressive.specs.Found.{LemmaAt}
 
-module _ (s : List ℕ) (r : Spot) where
-  pub none_found : (l : Lemma) → LemmaAt s l r → r.found ≡ false → l ≡ none
-  none_found none k f = refl
-  none_found (lemma name) k f =
-      let e : Reply.unknown ≡ Reply.told name =
-      ap (λ (b : Bool). pick b (Reply.told (take r.len (drop r.at s))) Reply.unknown) (sym f) ∙ k.reads in
+module _ (s : List ℕ) where
+  pub none_found : (r : Option Spot) (l : Lemma) → LemmaAt s l r → is_some r ≡ false → l ≡ none
+  none_found None none k f = refl
+  none_found None (lemma name) k f =
+      let e : Reply.unknown ≡ Reply.told name = k.reads in
       let z : ◌≡◌ {A = ℕ} 0 1 = cc in absurd (omega arith)
+  none_found (Some v) l k f = let z : ◌≡◌ {A = ℕ} 0 1 = cc in absurd (omega arith)
 
-  pub some-found : (l : Lemma) → LemmaAt s l r → r.found ≡ true → l ≡ lemma (take r.len (drop r.at s))
-  some-found none k f =
-      let e : Reply.told (take r.len (drop r.at s)) ≡ Reply.unknown =
-      ap (λ (b : Bool). pick b (Reply.told (take r.len (drop r.at s))) Reply.unknown) (sym f) ∙ k.reads in
+  pub some-found : (v : Spot) (l : Lemma) → LemmaAt s l (Some v) → l ≡ lemma (take v.len (drop v.at s))
+  some-found v none k =
+      let e : Reply.told (take v.len (drop v.at s)) ≡ Reply.unknown = k.reads in
       let z : ◌≡◌ {A = ℕ} 0 1 = cc in absurd (omega arith)
-  some-found (lemma name) k f =
-      let e : Reply.told (take r.len (drop r.at s)) ≡ Reply.told name =
-      ap (λ (b : Bool). pick b (Reply.told (take r.len (drop r.at s))) Reply.unknown) (sym f) ∙ k.reads in
-      let n : name ≡ take r.len (drop r.at s) = cc in
+  some-found v (lemma name) k =
+      let e : Reply.told (take v.len (drop v.at s)) ≡ Reply.told name = k.reads in
+      let n : name ≡ take v.len (drop v.at s) = cc in
       ap lemma n
 
+  none-unfound : (r : Option Spot) → LemmaAt s none r → is_some r ≡ true → ⊥
+  none-unfound None k f = let z : ◌≡◌ {A = ℕ} 0 1 = cc in omega arith
+  none-unfound (Some v) k f = let e = some-found v none k in let z : ◌≡◌ {A = ℕ} 0 1 = cc in omega arith
+
+module _ (s : List ℕ) (r : Option Spot) where
   -- a verb that is found is the first; where it is none, the search goes on
-  pub verb-first : (name : List ℕ) (rest : Lemma) → LemmaAt s (verb_or (reply s) name none) r → r.found ≡ true →
+  pub verb-first : (name : List ℕ) (rest : Lemma) → LemmaAt s (verb_or (reply s) name none) r → is_some r ≡ true →
       LemmaAt s (verb_or (reply s) name rest) r
   verb-first name rest k f = go (is_verb (reply s) name) k
     where
       go : (b : Bool) → LemmaAt s (pick b (lemma name) none) r → LemmaAt s (pick b (lemma name) rest) r
       go true k = k
-      go false k = let e = some-found none k f in let z : ◌≡◌ {A = ℕ} 0 1 = cc in absurd (omega arith)
+      go false k = absurd (none-unfound s r k f)
 
-  pub verb_next : (name : List ℕ) (rest : Lemma) → LemmaAt s (verb_or (reply s) name none) r → r.found ≡ false →
+  pub verb_next : (name : List ℕ) (rest : Lemma) → LemmaAt s (verb_or (reply s) name none) r → is_some r ≡ false →
       verb_or (reply s) name rest ≡ rest
   verb_next name rest k f = go (is_verb (reply s) name) k
     where
       go : (b : Bool) → LemmaAt s (pick b (lemma name) none) r → pick b (lemma name) rest ≡ rest
-      go true k = let e = none_found (lemma name) k f in let z : ◌≡◌ {A = ℕ} 0 1 = cc in absurd (omega arith)
+      go true k = let e = none_found s r (lemma name) k f in let z : ◌≡◌ {A = ℕ} 0 1 = cc in absurd (omega arith)
       go false k = refl
 
   -- a verb has a line, which holds its name
@@ -60,22 +64,22 @@ module _ (s : List ℕ) (r : Spot) where
       go (Reply.told v) t h = h
 
 module _ (s : List ℕ) where
-  pub no-lemma : (l : Lemma) → l ≡ none → LemmaAt s l no_spot
-  no-lemma l e = rw e (record { settled = refl; reads = refl; inside = omega arith })
+  pub no-lemma : (l : Lemma) → l ≡ none → LemmaAt s l None
+  no-lemma l e = rw e (record { settled = refl; reads = refl; inside = tt })
 
-  pub not-verb : (name : List ℕ) → is_verb (reply s) name ≡ false → LemmaAt s (verb_or (reply s) name none) no_spot
+  pub not-verb : (name : List ℕ) → is_verb (reply s) name ≡ false → LemmaAt s (verb_or (reply s) name none) None
   not-verb name e = no-lemma _ (ap (λ (b : Bool). pick b (lemma name) none) e)
 
   -- the verb that a link line names, by whether there is a line
-  pub untold : (r : Spot) → r.found ≡ false → verb_told (reply s) (text_at s r) ≡ none
-  untold r e = rw e
+  pub untold : (r : Option Spot) → r ≡ None → verb_told (reply s) (text_at s r) ≡ none
+  untold r e = ap (λ r. verb_told (reply s) (text_at s r)) e
 
-  pub told-verb : (r : Spot) → r.found ≡ true →
-      verb_or (reply s) (take (r.at + r.len - r.at) (drop r.at s) ++ []) none ≡ verb_told (reply s) (text_at s r)
-  told-verb r e =
-      let p : r.at + r.len - r.at ≡ r.len = omega arith in
-      ap (λ (n : List ℕ). verb_or (reply s) n none) (append-nil _ ∙ ap (λ (n : ℕ). take n (drop r.at s)) p)
-      ∙ ap (λ (b : Bool). verb_told (reply s) (pick b (Reply.told (take r.len (drop r.at s))) Reply.unknown)) (sym e)
+  pub told-verb : (r : Option Spot) (v : Spot) → r ≡ Some v →
+      verb_or (reply s) (take (v.at + v.len - v.at) (drop v.at s) ++ []) none ≡ verb_told (reply s) (text_at s r)
+  told-verb r v e =
+      let p : v.at + v.len - v.at ≡ v.len = omega arith in
+      ap (λ (n : List ℕ). verb_or (reply s) n none) (append-nil _ ∙ ap (λ (n : ℕ). take n (drop v.at s)) p)
+      ∙ ap (λ r. verb_told (reply s) (text_at s r)) (sym e)
 
 module _ (s linked stem : List ℕ) where
   -- what is left of the search after stem+नु, after stem+्नु and after stem+उनु
@@ -89,20 +93,20 @@ module _ (s linked stem : List ℕ) where
   abbrev pub after_open : Lemma
   after_open = verb_or (reply s) (stem ++ (virama ++ syllable_nu)) after_closed
 
-  module _ (r : Spot) (k : LemmaAt s (verb_or (reply s) (stem ++ syllable_nu) none) r) where
-    pub open_found : r.found ≡ true → LemmaAt s (regular (reply s) linked stem) r
+  module _ (r : Option Spot) (k : LemmaAt s (verb_or (reply s) (stem ++ syllable_nu) none) r) where
+    pub open_found : is_some r ≡ true → LemmaAt s (regular (reply s) linked stem) r
     unfolding regular
     open_found f = verb-first s r _ after_open k f
 
-    pub open_next : r.found ≡ false → regular (reply s) linked stem ≡ after_open
+    pub open_next : is_some r ≡ false → regular (reply s) linked stem ≡ after_open
     unfolding regular
     open_next f = verb_next s r _ after_open k f
 
-  module _ (r : Spot) (k : LemmaAt s (verb_or (reply s) (stem ++ (virama ++ syllable_nu)) none) r) where
-    pub closed_found : r.found ≡ true → LemmaAt s after_open r
+  module _ (r : Option Spot) (k : LemmaAt s (verb_or (reply s) (stem ++ (virama ++ syllable_nu)) none) r) where
+    pub closed_found : is_some r ≡ true → LemmaAt s after_open r
     closed_found f = verb-first s r _ after_closed k f
 
-    pub closed_next : r.found ≡ false → after_open ≡ after_closed
+    pub closed_next : is_some r ≡ false → after_open ≡ after_closed
     closed_next f = verb_next s r _ after_closed k f
 
   pub without_vowel : (ends_in sign_aa stem || ends_in letter_aa stem) ≡ false → after_closed ≡ last
@@ -136,8 +140,10 @@ module _ (s linked stem : List ℕ) where
   by_reply a q h e = whole-stem h e ∙ ap (decided (reply s) linked stem) (sym q)
 
   -- a link line that was found decides alone, and the search goes on where there is none
-  pub linked_found : (r : Spot) → r.found ≡ true → verb_told (reply s) (text_at s r) ≡ decided (reply s) linked stem (text_at s r)
-  linked_found r e = rw e
+  pub linked_found : (r : Option Spot) → is_some r ≡ true → verb_told (reply s) (text_at s r) ≡ decided (reply s) linked stem (text_at s r)
+  linked_found (Some v) e = refl
+  linked_found None e = let z : ◌≡◌ {A = ℕ} 0 1 = cc in absurd (omega arith)
 
-  pub linked_next : (r : Spot) → r.found ≡ false → regular (reply s) linked stem ≡ decided (reply s) linked stem (text_at s r)
-  linked_next r e = rw e
+  pub linked_next : (r : Option Spot) → is_some r ≡ false → regular (reply s) linked stem ≡ decided (reply s) linked stem (text_at s r)
+  linked_next None e = refl
+  linked_next (Some v) e = let z : ◌≡◌ {A = ℕ} 0 1 = cc in absurd (omega arith)

@@ -1,10 +1,9 @@
 -- The list of readings in rank order, and where it stops: at more than 64. Assumes nothing.
-use Rattle.std.specs.Prelude.{ℕ, List, [], ◌∷◌, length, take, ltb}
+use Rattle.std.specs.Prelude.{ℕ, List, [], ◌∷◌, length, ltb}
 use Rattle.runs.specs.Runs.{pick}
 use Rattle.ranking.specs.Rank.{ahead_of}
 use Rattle.ranking.specs.declared.Reading.{Reading}
 use Rattle.ranking.specs.declared.Classified.{Classified}
-use Rattle.ranking.specs.declared.Listing.{Listing}
 use Rattle.origin.specs.declared.OriginDecision.{OriginDecision}
 
 -- the most readings that a list holds
@@ -14,10 +13,6 @@ list_limit = 64
 -- a reading with what is decided of its root (document 02 (h)): origin, source and confidence
 abbrev pub with_origin : Reading → OriginDecision → Classified
 with_origin r d = record { reading = r; origin = d.origin; source = d.source; confidence = d.confidence }
-
--- the rows of a list: as many as it counts
-abbrev pub rows_of : Listing → List Classified
-rows_of l = take l.count l.rows
 
 -- r put in before the first row that it is ahead of, so behind its equals that came before it
 unfoldable pub ranked : List ℕ → Reading → List Reading → List Reading

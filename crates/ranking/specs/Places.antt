@@ -1,7 +1,5 @@
--- Where a reading is put in, and how: the two halves of `ranked`. Assumes nothing.
-use Rattle.std.specs.Prelude.{ℕ, zero, suc, List, [], ◌∷◌}
-use Rattle.runs.specs.Runs.{pick}
-use Rattle.ranking.specs.Rank.{ahead_of}
+-- What stands past the end of a list. Assumes nothing.
+use Rattle.std.specs.Prelude.{[]}
 use Rattle.ranking.specs.Lists.{with_origin}
 use Rattle.ranking.specs.declared.Reading.{Reading}
 use Rattle.ranking.specs.declared.Classified.{Classified}
@@ -9,17 +7,6 @@ use Rattle.tables.specs.declared.origins.Origin.TheVariants.{Tatsam}
 use Rattle.origin.specs.declared.OriginSource.TheVariants.{Override}
 use Rattle.origin.specs.Decisions.{decided}
 use Rattle.std.specs.Float.{nan}
-
--- the number of the first row that r is ahead of, or of rows where there is none
-unfoldable pub place_in : List ℕ → Reading → List Reading → ℕ
-place_in w r [] = zero
-place_in w r (x ∷ xs) = pick (ahead_of w r x) zero (suc (place_in w r xs))
-
--- r put in before row i
-abbrev pub put_in : {A : Type 0} → List A → ℕ → A → List A
-put_in xs zero r = r ∷ xs
-put_in [] (suc i) r = r ∷ []
-put_in (x ∷ xs) (suc i) r = x ∷ put_in xs i r
 
 -- what stands past the end of a list of readings
 abbrev pub no_reading : Reading

@@ -1,31 +1,25 @@
 -- What is found of a sheet's lines: one text of the 25 after the other, one line after the other, codes that say their findings again, and
 -- the report written from them. The proofs of faults.rt, lines.rt and entry.rt cite these. Assumes nothing.
-use Rattle.std.specs.Prelude.{Ok}
+use Rattle.std.specs.Prelude.{Ok, Option, Some, None}
 use Prim.Native.Nat.{ℕ, zero, suc, ◌+◌, ◌-◌, ◌*◌, ◌/◌, ◌%◌, ◌≤◌, ◌<◌}
 use native.Mathlib.Numerals.{add-one}
 use native.Mathlib.Omega.{arith}
-use mathlib.Core.Path.{◌≡◌, refl, sym, ap, subst, ◌∙◌}
+use mathlib.Core.Path.{◌≡◌, refl, ap, ◌∙◌}
 use mathlib.Core.Bool.{true, false}
 use mathlib.Core.List.{List, [], ◌∷◌, ◌++◌}
 use lib.ListN.{length, take, drop, get_or, drop_of_length-le}
 use lib.Seq.{drop-cons}
-use Rattle.runs.specs.Runs.{cmp, same_text}
-use Rattle.std.specs.declared.cmp.Ordering.{Ordering}
-use Rattle.runs.proofs.Ordered.{is_equal, same_cmp}
+use Rattle.runs.specs.Runs.{same_text}
 use Rattle.sheet.specs.Forms.{is_form, key, key_of}
 use Rattle.sheet.specs.Lines.{starts_of, line_at, sheet_check}
 use Rattle.sheet.proofs.Accepted.{GoesUp, accepted_up}
 use Rattle.sheet.specs.Steps.{name_end}
 use Rattle.referred.proofs.Refers.{name-cut}
 use Rattle.referred.specs.declared.Fault.{Fault}
-use Rattle.referred.specs.declared.Fault.TheVariants.{Sound, Missing, NotVerb, Unused}
+use Rattle.referred.specs.declared.Fault.TheVariants.{Missing, NotVerb, Unused}
 use Rattle.referred.specs.Report.{is_text, fault_at, Finding, found, findings_at, findings_of, before, behind, finding_line, finding_lines, report_text}
 use Rattle.referred.specs.Codes.{code_for, code_of, codes_of}
 use Rattle.referred.specs.Coded.{FormsAt, fault_in, code_line, code_lines, coded_text}
-
--- the order that a comparison told decides whether two keys are the same
-pub same_told : (a b : List ℕ) (o p : Ordering) → o ≡ cmp a b → o ≡ p → is_equal p ≡ same_text a b
-same_told a b o p e f = ap is_equal (sym f ∙ e) ∙ sym (same_cmp a b)
 
 -- one text, and those to come
 module _ (k : List ℕ) (ts : List (List ℕ)) (i : ℕ) where
@@ -41,42 +35,20 @@ module _ (k : List ℕ) (ts : List (List ℕ)) (i : ℕ) where
   unfolding is_text
   text-none h = rw (drop_of_length-le ts h)
 
--- a code is 0 where nothing is wrong; else it is that of the one finding
-found_none : (at : ℕ) (f : Fault) → code_for at f ≡ 0 → found at f ≡ []
-found_none at Sound e = refl
-found_none at Missing e = absurd (omega arith)
-found_none at NotVerb e = absurd (omega arith)
-found_none at Unused e = absurd (omega arith)
-
-found_some : (at : ℕ) (f : Fault) → 0 < code_for at f → codes_of (found at f) ≡ code_for at f ∷ []
-found_some at Sound e = absurd (omega arith)
-found_some at Missing e = refl
-found_some at NotVerb e = refl
-found_some at Unused e = refl
-
 codes_append : (fs gs : List Finding) → codes_of (fs ++ gs) ≡ codes_of fs ++ codes_of gs
 codes_append [] gs = refl
 codes_append (f ∷ fs) gs = ap (λ (x : List ℕ). code_of f ∷ x) (codes_append fs gs)
 
--- line i, and those to come; c is its code
-module _ (s starts : List ℕ) (i : ℕ) (h : i < length starts) (c : ℕ) (e : c ≡ code_for (get_or starts i 0) (fault_at s (get_or starts i 0))) where
-  pub codes_none : c ≡ 0 → codes_of (findings_at s (drop i starts)) ≡ codes_of (findings_at s (drop (i + 1) starts))
+-- line i, and those to come
+module _ (s starts : List ℕ) (i : ℕ) (h : i < length starts) where
+  pub codes_none : fault_at s (get_or starts i 0) ≡ None → codes_of (findings_at s (drop i starts)) ≡ codes_of (findings_at s (drop (i + 1) starts))
   unfolding findings_at
-  codes_none z =
-      let n = found_none (get_or starts i 0) (fault_at s (get_or starts i 0)) (sym e ∙ z) in
-      ap (λ (x : List ℕ). codes_of (findings_at s x)) (drop-cons starts i 0 h) ∙ ap (λ (x : List Finding). codes_of (x ++ findings_at s (drop (suc i) starts))) n
-      ∙ ap (λ (x : ℕ). codes_of (findings_at s (drop x starts))) (sym (add-one i))
+  codes_none z = rw (drop-cons starts i 0 h, z, add-one i)
 
-  pub codes_some : 0 < c → codes_of (findings_at s (drop i starts)) ≡ c ∷ codes_of (findings_at s (drop (i + 1) starts))
+  pub codes_some : (f : Fault) → fault_at s (get_or starts i 0) ≡ Some f
+      → codes_of (findings_at s (drop i starts)) ≡ code_for (get_or starts i 0) f ∷ codes_of (findings_at s (drop (i + 1) starts))
   unfolding findings_at
-  codes_some z =
-      let at = get_or starts i 0 in
-      let n = found_some at (fault_at s at) (subst (λ (x : ℕ). 0 < x) e z) in
-      ap (λ (x : List ℕ). codes_of (findings_at s x)) (drop-cons starts i 0 h)
-      ∙ codes_append (found at (fault_at s at)) (findings_at s (drop (suc i) starts))
-      ∙ ap (λ (x : List ℕ). x ++ codes_of (findings_at s (drop (suc i) starts))) n
-      ∙ ap (λ (x : ℕ). x ∷ codes_of (findings_at s (drop (suc i) starts))) (sym e)
-      ∙ ap (λ (x : ℕ). c ∷ codes_of (findings_at s (drop x starts))) (sym (add-one i))
+  codes_some f z = rw (drop-cons starts i 0 h, z, add-one i)
 
 pub codes_end : (s starts : List ℕ) (i : ℕ) → length starts ≤ i → codes_of (findings_at s (drop i starts)) ≡ []
 unfolding findings_at
@@ -94,26 +66,23 @@ module _ (s : List ℕ) (at : ℕ) where
   number-back : (n : ℕ) → n < 256 → (at * 256 + n) % 256 ≡ n
   number-back n h = omega arith
 
-  pub code-back : (f : Fault) → 0 < code_for at f → (code_for at f / 256 ≡ at) × (fault_in (code_for at f) ≡ f)
+  pub code-back : (f : Fault) → (code_for at f / 256 ≡ at) × (fault_in (code_for at f) ≡ f)
   unfolding fault_in
-  code-back Sound h = absurd (omega arith)
-  code-back Missing h = (line-back 1 (omega arith), rw (number-back 1 (omega arith)))
-  code-back NotVerb h = (line-back 2 (omega arith), rw (number-back 2 (omega arith)))
-  code-back Unused h = (line-back 3 (omega arith), rw (number-back 3 (omega arith)))
+  code-back Missing = (line-back 1 (omega arith), rw (number-back 1 (omega arith)))
+  code-back NotVerb = (line-back 2 (omega arith), rw (number-back 2 (omega arith)))
+  code-back Unused = (line-back 3 (omega arith), rw (number-back 3 (omega arith)))
 
-  line_of_code : (f : Fault) → 0 < code_for at f → code_line s (code_for at f) ≡ finding_line s (record { line = at; fault = f })
+  line_of_code : (f : Fault) → code_line s (code_for at f) ≡ finding_line s (record { line = at; fault = f })
   unfolding code_line finding_line
-  line_of_code f h = let b = code-back f h in rw (b.0, b.1)
+  line_of_code f = let b = code-back f in rw (b.0, b.1)
 
 -- the lines of the codes are those of the findings, and a form stands at each
 module _ (s : List ℕ) where
-  one_line : (at : ℕ) (f : Fault) (rest : List Finding) → code_lines s (codes_of rest) ≡ finding_lines s rest
+  one_line : (at : ℕ) (f : Option Fault) (rest : List Finding) → code_lines s (codes_of rest) ≡ finding_lines s rest
       → code_lines s (codes_of (found at f ++ rest)) ≡ finding_lines s (found at f ++ rest)
   unfolding code_lines finding_lines
-  one_line at Sound rest e = e
-  one_line at Missing rest e = rw (line_of_code s at Missing (omega arith), e)
-  one_line at NotVerb rest e = rw (line_of_code s at NotVerb (omega arith), e)
-  one_line at Unused rest e = rw (line_of_code s at Unused (omega arith), e)
+  one_line at None rest e = e
+  one_line at (Some f) rest e = rw (line_of_code s at f, e)
 
   pub lines-coded : (places : List ℕ) → code_lines s (codes_of (findings_at s places)) ≡ finding_lines s (findings_at s places)
   unfolding findings_at code_lines finding_lines
@@ -129,11 +98,9 @@ module _ (s : List ℕ) where
   form-there (c ∷ cs) f zero h = f.0
   form-there (c ∷ cs) f (suc k) h = form-there cs f.1 k (omega arith)
 
-  one_form : (at : ℕ) (f : Fault) (rest : List Finding) → is_form (drop at s) ≡ true → Forms (codes_of rest) → Forms (codes_of (found at f ++ rest))
-  one_form at Sound rest h k = k
-  one_form at Missing rest h k = (rw (code-back s at Missing (omega arith)).0 h, k)
-  one_form at NotVerb rest h k = (rw (code-back s at NotVerb (omega arith)).0 h, k)
-  one_form at Unused rest h k = (rw (code-back s at Unused (omega arith)).0 h, k)
+  one_form : (at : ℕ) (f : Option Fault) (rest : List Finding) → is_form (drop at s) ≡ true → Forms (codes_of rest) → Forms (codes_of (found at f ++ rest))
+  one_form at None rest h k = k
+  one_form at (Some f) rest h k = (rw (code-back s at f).0 h, k)
 
   forms_up : (last places : List ℕ) → GoesUp s last places → Forms (codes_of (findings_at s places))
   unfolding findings_at

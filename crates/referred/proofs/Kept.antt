@@ -1,15 +1,13 @@
 -- The codes of the lines passed so far, kept at the front of a list. The proof of `faults::find_in` cites these. Assumes nothing.
-use Prim.Native.Nat.{ℕ, zero, suc, ◌+◌, ◌≤◌, ◌<◌}
+use Rattle.std.specs.Prelude.{Some, None}
+use Prim.Native.Nat.{ℕ, ◌+◌, ◌≤◌, ◌<◌}
 use native.Mathlib.Omega.{arith}
-use mathlib.Core.Path.{◌≡◌, refl, sym, ap, subst, ◌∙◌}
-use mathlib.Core.Bool.{Bool, true, false}
-use mathlib.Core.List.{List, ◌++◌, append-nil}
+use mathlib.Core.Path.{◌≡◌, refl, sym, ap, ◌∙◌}
+use mathlib.Core.List.{List, ◌∷◌, ◌++◌, append-nil}
 use lib.ListN.{length, take, drop, get_or, set, length-set, take-append-drop}
 use lib.Seq.{length-take-le}
-use lib.Dec.{eqb}
-use borrow.Author.Tests.{eqb-true, eqb-false}
-use Rattle.runs.specs.Runs.{pick}
 use Rattle.lookup.proofs.Count.{stored-front, stored-behind}
+use Rattle.referred.specs.declared.Fault.{Fault}
 use Rattle.referred.specs.Report.{fault_at, findings_at}
 use Rattle.referred.specs.Codes.{code_for, codes_of}
 use Rattle.referred.proofs.Found.{codes_none, codes_some, codes_end, codes_length}
@@ -22,32 +20,23 @@ pub record Kept (s starts old out : List ℕ) (n i : ℕ) : Type 0 where
   pub all : codes_of (findings_at s starts) ≡ take n out ++ codes_of (findings_at s (drop i starts))
   pub rest : drop n out ≡ drop n old
 
-positive : (c : ℕ) → (c ≡ 0 → ⊥) → 0 < c
-positive zero h = absurd (h refl)
-positive (suc c) h = omega arith
-
 module _ (s starts old : List ℕ) where
-  pub kept-none : Kept s starts old old 0 0
-  kept-none = record { inside = omega arith; few = omega arith; size = refl; all = refl; rest = refl }
+  pub kept_first : Kept s starts old old 0 0
+  kept_first = record { inside = omega arith; few = omega arith; size = refl; all = refl; rest = refl }
 
   module _ (out : List ℕ) (n i : ℕ) (k : Kept s starts old out n i) where
-    pub kept_more : i < length starts → length starts ≤ length old → (c : ℕ) → c ≡ code_for (get_or starts i 0) (fault_at s (get_or starts i 0)) → (out' : List ℕ) (n' : ℕ)
-        → n' ≡ pick (eqb c 0) n (n + 1) → out' ≡ pick (eqb c 0) out (set out n c) → Kept s starts old out' n' (i + 1)
-    kept_more h room c e out' n' p q = by (eqb c 0) refl p q
-      where
-        by : (b : Bool) → eqb c 0 ≡ b → n' ≡ pick b n (n + 1) → out' ≡ pick b out (set out n c) → Kept s starts old out' n' (i + 1)
-        by true z p q =
-            let a : codes_of (findings_at s starts) ≡ take n out ++ codes_of (findings_at s (drop (i + 1) starts)) =
-            k.all ∙ ap (λ (x : List ℕ). take n out ++ x) (codes_none s starts i h c e (eqb-true _ _ z)) in
-            subst (λ (x : List ℕ). Kept s starts old x n' (i + 1)) (sym q) (subst (λ (m : ℕ). Kept s starts old out m (i + 1)) (sym p)
-            (record { inside = omega arith; few = omega (arith, k.few); size = k.size; all = a; rest = k.rest }))
-        by false z p q =
-            let l : n < length out = omega (arith, k.few, k.size) in
-            let m : 0 < c = positive c (eqb-false _ _ z) in
-            let a : codes_of (findings_at s starts) ≡ take (n + 1) (set out n c) ++ codes_of (findings_at s (drop (i + 1) starts)) =
-            k.all ∙ ap (λ (x : List ℕ). take n out ++ x) (codes_some s starts i h c e m) ∙ sym (stored-front out old n c l (codes_of (findings_at s (drop (i + 1) starts)))) in
-            subst (λ (x : List ℕ). Kept s starts old x n' (i + 1)) (sym q) (subst (λ (m : ℕ). Kept s starts old (set out n c) m (i + 1)) (sym p)
-            (record { inside = omega arith; few = omega (arith, k.few); size = simp length-set k.size; all = a; rest = stored-behind out old n c l k.rest }))
+    pub kept_none : i < length starts → fault_at s (get_or starts i 0) ≡ None → Kept s starts old out n (i + 1)
+    kept_none h z =
+        record { inside = omega arith; few = omega (arith, k.few); size = k.size; all = k.all ∙ ap (λ (x : List ℕ). take n out ++ x) (codes_none s starts i h z); rest = k.rest }
+
+    pub kept_some : i < length starts → length starts ≤ length old → (f : Fault) → fault_at s (get_or starts i 0) ≡ Some f → (c : ℕ) → c ≡ code_for (get_or starts i 0) f
+        → Kept s starts old (set out n c) (n + 1) (i + 1)
+    kept_some h room f z c e =
+        let l : n < length out = omega (arith, k.few, k.size) in
+        let a : codes_of (findings_at s starts) ≡ take (n + 1) (set out n c) ++ codes_of (findings_at s (drop (i + 1) starts)) =
+        k.all ∙ ap (λ (x : List ℕ). take n out ++ x) (codes_some s starts i h f z) ∙ ap (λ (x : ℕ). take n out ++ (x ∷ codes_of (findings_at s (drop (i + 1) starts)))) (sym e)
+        ∙ sym (stored-front out old n c l (codes_of (findings_at s (drop (i + 1) starts)))) in
+        record { inside = omega arith; few = omega (arith, k.few); size = simp length-set k.size; all = a; rest = stored-behind out old n c l k.rest }
 
     -- all lines are passed
     pub kept-all : length starts ≤ i → length starts ≤ length old → (n ≡ length (findings_at s starts)) × (out ≡ codes_of (findings_at s starts) ++ drop n old)

@@ -1,8 +1,8 @@
 -- Request (k) as theorems: what is found of a line, said of the sheet's lines; that nothing is found exactly where every reference holds;
 -- which lines are reported, in which order; which number is given; how much room is enough. Assumes nothing.
-use Rattle.std.specs.Prelude.{Err, Ok, Result}
+use Rattle.std.specs.Prelude.{Err, Ok, Result, Option, Some, None}
 use Rattle.refusals.specs.declared.Refusal.{Refusal}
-use Prim.Native.Nat.{ℕ, suc, ◌+◌, ◌*◌, ◌/◌, ◌≤◌, ◌<◌}
+use Prim.Native.Nat.{ℕ, suc, ◌+◌, ◌*◌, ◌/◌, ◌≤◌}
 use native.Mathlib.Omega.{arith}
 use mathlib.Core.Path.{◌≡◌, refl, sym, ap, subst, ◌∙◌}
 use mathlib.Core.Bool.{Bool, true, false, ◌||◌}
@@ -32,10 +32,10 @@ use Rattle.sheet.specs.Replies.{Reply, unknown, told, reply_in, reply}
 use Rattle.sheet.proofs.Texts.{Rises, accepted_rises}
 use Rattle.writing.specs.Decimal.{decimal, digits_in}
 use Rattle.referred.specs.declared.Fault.{Fault}
-use Rattle.referred.specs.declared.Fault.TheVariants.{Sound, Missing, NotVerb, Unused}
+use Rattle.referred.specs.declared.Fault.TheVariants.{Missing, NotVerb, Unused}
 use Rattle.referred.specs.Report.{verb_fault, is_text, fault_of, fault_at, Finding, found, findings_at, findings_of, finding_line, finding_lines, report_text}
 use Rattle.referred.specs.Holds.{VerbLine, HasVerb, NamesText, Holds, AllHold, Ascending, IsFinding}
-use Rattle.referred.specs.Codes.{code_for, code_of, codes_of}
+use Rattle.referred.specs.Codes.{code_of, codes_of}
 use Rattle.referred.specs.Coded.{fault_in}
 use Rattle.referred.specs.Answers.{answered_by, report_outcome, found_outcome}
 use Rattle.referred.proofs.Found.{codes_length, code-back}
@@ -111,41 +111,41 @@ module _ (s : List ℕ) (h : sheet_check s ≡ Ok tt) where
   verb-told e f w = ap (reply_in (lines_of s)) (sym w.named) ∙ line-told [] (lines_of s) (accepted_rises s h) f w.there
 
   -- a link is sound exactly where its verb has a line with v
-  sound_link : (e : Entry) → (verb_fault (reply s 0x77 e.value) ≡ Sound) ↔ HasVerb (lines_of s) e
+  sound_link : (e : Entry) → (verb_fault (reply s 0x77 e.value) ≡ None) ↔ HasVerb (lines_of s) e
   sound_link e = (by (reply s 0x77 e.value) refl, λ w. ap verb_fault (verb-told e w.0 w.1) ∙ rw w.2)
     where
-      by : (r : Reply) → reply s 0x77 e.value ≡ r → verb_fault r ≡ Sound → HasVerb (lines_of s) e
+      by : (r : Reply) → reply s 0x77 e.value ≡ r → verb_fault r ≡ None → HasVerb (lines_of s) e
       by unknown p k = let z : ◌≡◌ {A = ℕ} 0 1 = cc in absurd (omega arith)
       by (told v) p k = on (letters_of v).verb refl k
         where
-          on : (b : Bool) → (letters_of v).verb ≡ b → pick b Sound NotVerb ≡ Sound → HasVerb (lines_of s) e
+          on : (b : Bool) → (letters_of v).verb ≡ b → pick b None (Some NotVerb) ≡ None → HasVerb (lines_of s) e
           on true q k = let w = verb_of e (told v) p v refl in (w.0, w.1, ap (λ (x : List ℕ). (letters_of x).verb) w.2 ∙ q)
           on false q k = let z : ◌≡◌ {A = ℕ} 0 1 = cc in absurd (omega arith)
 
   -- a link is missing exactly where no line is its verb's, and no verb exactly where that line lacks v
-  pub missing_exactly : (e : Entry) → (verb_fault (reply s 0x77 e.value) ≡ Missing) ↔ ((f : Entry) → VerbLine (lines_of s) e f → ⊥)
+  pub missing_exactly : (e : Entry) → (verb_fault (reply s 0x77 e.value) ≡ Some Missing) ↔ ((f : Entry) → VerbLine (lines_of s) e f → ⊥)
   missing_exactly e = (by (reply s 0x77 e.value) refl, on (reply s 0x77 e.value) refl)
     where
-      by : (r : Reply) → reply s 0x77 e.value ≡ r → verb_fault r ≡ Missing → (f : Entry) → VerbLine (lines_of s) e f → ⊥
+      by : (r : Reply) → reply s 0x77 e.value ≡ r → verb_fault r ≡ Some Missing → (f : Entry) → VerbLine (lines_of s) e f → ⊥
       by unknown p k f w = let q = sym p ∙ verb-told e f w in let z : ◌≡◌ {A = ℕ} 0 1 = cc in omega arith
       by (told v) p k f w = told-not (letters_of v).verb k
         where
-          told-not : (b : Bool) → pick b Sound NotVerb ≡ Missing → ⊥
+          told-not : (b : Bool) → pick b None (Some NotVerb) ≡ Some Missing → ⊥
           told-not true q = let z : ◌≡◌ {A = ℕ} 0 1 = cc in omega arith
           told-not false q = let z : ◌≡◌ {A = ℕ} 0 1 = cc in omega arith
 
-      on : (r : Reply) → reply s 0x77 e.value ≡ r → ((f : Entry) → VerbLine (lines_of s) e f → ⊥) → verb_fault r ≡ Missing
+      on : (r : Reply) → reply s 0x77 e.value ≡ r → ((f : Entry) → VerbLine (lines_of s) e f → ⊥) → verb_fault r ≡ Some Missing
       on unknown p n = refl
       on (told v) p n = let w = verb_of e (told v) p v refl in absurd (n w.0 w.1)
 
-  pub notverb_exactly : (e : Entry) → (verb_fault (reply s 0x77 e.value) ≡ NotVerb) ↔ ((f : Entry) × VerbLine (lines_of s) e f × ((letters_of f.value).verb ≡ false))
+  pub notverb_exactly : (e : Entry) → (verb_fault (reply s 0x77 e.value) ≡ Some NotVerb) ↔ ((f : Entry) × VerbLine (lines_of s) e f × ((letters_of f.value).verb ≡ false))
   notverb_exactly e = (by (reply s 0x77 e.value) refl, λ w. ap verb_fault (verb-told e w.0 w.1) ∙ rw w.2)
     where
-      by : (r : Reply) → reply s 0x77 e.value ≡ r → verb_fault r ≡ NotVerb → (f : Entry) × VerbLine (lines_of s) e f × ((letters_of f.value).verb ≡ false)
+      by : (r : Reply) → reply s 0x77 e.value ≡ r → verb_fault r ≡ Some NotVerb → (f : Entry) × VerbLine (lines_of s) e f × ((letters_of f.value).verb ≡ false)
       by unknown p k = let z : ◌≡◌ {A = ℕ} 0 1 = cc in absurd (omega arith)
       by (told v) p k = on (letters_of v).verb refl k
         where
-          on : (b : Bool) → (letters_of v).verb ≡ b → pick b Sound NotVerb ≡ NotVerb → (f : Entry) × VerbLine (lines_of s) e f × ((letters_of f.value).verb ≡ false)
+          on : (b : Bool) → (letters_of v).verb ≡ b → pick b None (Some NotVerb) ≡ Some NotVerb → (f : Entry) × VerbLine (lines_of s) e f × ((letters_of f.value).verb ≡ false)
           on false q k = let w = verb_of e (told v) p v refl in (w.0, w.1, ap (λ (x : List ℕ). (letters_of x).verb) w.2 ∙ q)
           on true q k = let z : ◌≡◌ {A = ℕ} 0 1 = cc in absurd (omega arith)
 
@@ -154,43 +154,43 @@ module _ (s : List ℕ) (h : sheet_check s ≡ Ok tt) where
   unfolding fault_of
   link-fault e l = rw (eq-eqb e.letter 0x6C l)
 
-  pub unused_exactly : (e : Entry) → (fault_of (reply s) e ≡ Unused) ↔ ((e.letter ≡ 0x6B) × (NamesText e → ⊥))
+  pub unused_exactly : (e : Entry) → (fault_of (reply s) e ≡ Some Unused) ↔ ((e.letter ≡ 0x6B) × (NamesText e → ⊥))
   unfolding fault_of
   unused_exactly e = by (eqb e.letter 0x6C) (eqb e.letter 0x6B) refl refl
     where
-      verb-not : (r : Reply) → verb_fault r ≡ Unused → ⊥
+      verb-not : (r : Reply) → verb_fault r ≡ Some Unused → ⊥
       verb-not unknown k = let z : ◌≡◌ {A = ℕ} 0 1 = cc in omega arith
       verb-not (told v) k = on (letters_of v).verb k
         where
-          on : (b : Bool) → pick b Sound NotVerb ≡ Unused → ⊥
+          on : (b : Bool) → pick b None (Some NotVerb) ≡ Some Unused → ⊥
           on true q = let z : ◌≡◌ {A = ℕ} 0 1 = cc in omega arith
           on false q = let z : ◌≡◌ {A = ℕ} 0 1 = cc in omega arith
 
-      kind : (b : Bool) → is_text (key e) affixes ≡ b → pick b Sound Unused ≡ Unused → NamesText e → ⊥
+      kind : (b : Bool) → is_text (key e) affixes ≡ b → pick b None (Some Unused) ≡ Some Unused → NamesText e → ⊥
       kind true q k n = let z : ◌≡◌ {A = ℕ} 0 1 = cc in omega arith
       kind false q k n = let m = member_text (key e) affixes n.0 n.1 n.2 in let z : ◌≡◌ {A = ℕ} 0 1 = cc in omega arith
 
-      back : (b : Bool) → is_text (key e) affixes ≡ b → (NamesText e → ⊥) → pick b Sound Unused ≡ Unused
+      back : (b : Bool) → is_text (key e) affixes ≡ b → (NamesText e → ⊥) → pick b None (Some Unused) ≡ Some Unused
       back true q n = absurd (n (text_member (key e) affixes q))
       back false q n = refl
 
       by : (l k : Bool) → eqb e.letter 0x6C ≡ l → eqb e.letter 0x6B ≡ k
-          → (pick l (verb_fault (reply s 0x77 e.value)) (pick k (pick (is_text (key e) affixes) Sound Unused) Sound) ≡ Unused) ↔ ((e.letter ≡ 0x6B) × (NamesText e → ⊥))
+          → (pick l (verb_fault (reply s 0x77 e.value)) (pick k (pick (is_text (key e) affixes) None (Some Unused)) None) ≡ Some Unused) ↔ ((e.letter ≡ 0x6B) × (NamesText e → ⊥))
       by true k p q = (λ f. absurd (verb-not (reply s 0x77 e.value) f), λ w. let n = eqb-true e.letter 0x6C p in let m = w.0 in absurd (omega arith))
       by false true p q = (λ f. (eqb-true e.letter 0x6B q, kind (is_text (key e) affixes) refl f), λ w. back (is_text (key e) affixes) refl w.1)
       by false false p q = (λ f. let z : ◌≡◌ {A = ℕ} 0 1 = cc in absurd (omega arith), λ w. absurd (eqb-false _ _ q w.0))
 
   -- nothing is wrong with a line exactly where its reference holds
-  pub sound_exactly : (e : Entry) → (fault_of (reply s) e ≡ Sound) ↔ Holds (lines_of s) e
+  pub sound_exactly : (e : Entry) → (fault_of (reply s) e ≡ None) ↔ Holds (lines_of s) e
   unfolding fault_of
   sound_exactly e = by (eqb e.letter 0x6C) (eqb e.letter 0x6B) refl refl
     where
-      kind : (b : Bool) → is_text (key e) affixes ≡ b → pick b Sound Unused ≡ Sound → NamesText e
+      kind : (b : Bool) → is_text (key e) affixes ≡ b → pick b None (Some Unused) ≡ None → NamesText e
       kind true q k = text_member (key e) affixes q
       kind false q k = let z : ◌≡◌ {A = ℕ} 0 1 = cc in absurd (omega arith)
 
       by : (l k : Bool) → eqb e.letter 0x6C ≡ l → eqb e.letter 0x6B ≡ k
-          → (pick l (verb_fault (reply s 0x77 e.value)) (pick k (pick (is_text (key e) affixes) Sound Unused) Sound) ≡ Sound) ↔ Holds (lines_of s) e
+          → (pick l (verb_fault (reply s 0x77 e.value)) (pick k (pick (is_text (key e) affixes) None (Some Unused)) None) ≡ None) ↔ Holds (lines_of s) e
       by true k p q =
           let n : e.letter ≡ 0x6C = eqb-true e.letter 0x6C p in
           (λ f. record { link = λ z. (sound_link e).0 f; kind = λ z. absurd (omega arith) }, λ w. (sound_link e).1 (w.link n))
@@ -202,24 +202,22 @@ module _ (s : List ℕ) (h : sheet_check s ≡ Ok tt) where
       by false false p q = (λ f. record { link = λ z. absurd (eqb-false _ _ p z); kind = λ z. absurd (eqb-false _ _ q z) }, λ w. refl)
 
   -- nothing is found exactly where every reference holds
-  found_none : (at : ℕ) (f : Fault) → found at f ≡ [] → f ≡ Sound
-  found_none at Sound e = refl
-  found_none at Missing e = let z : ◌≡◌ {A = ℕ} 1 0 = ap length e in absurd (omega arith)
-  found_none at NotVerb e = let z : ◌≡◌ {A = ℕ} 1 0 = ap length e in absurd (omega arith)
-  found_none at Unused e = let z : ◌≡◌ {A = ℕ} 1 0 = ap length e in absurd (omega arith)
+  found_none : (at : ℕ) (f : Option Fault) → found at f ≡ [] → f ≡ None
+  found_none at None e = refl
+  found_none at (Some f) e = let z : ◌≡◌ {A = ℕ} 1 0 = ap length e in absurd (omega arith)
 
   split_none : {A : Type 0} (a b : List A) → a ++ b ≡ [] → (a ≡ []) × (b ≡ [])
   split_none [] b e = (refl, e)
   split_none (x ∷ a) b e = let z : ◌≡◌ {A = ℕ} (suc (length (a ++ b))) 0 = ap length e in absurd (omega arith)
 
-  none_means : (places : List ℕ) → findings_at s places ≡ [] → (e : Entry) → Memᴰ e (map (line_at s) places) → fault_of (reply s) e ≡ Sound
+  none_means : (places : List ℕ) → findings_at s places ≡ [] → (e : Entry) → Memᴰ e (map (line_at s) places) → fault_of (reply s) e ≡ None
   unfolding findings_at
   none_means [] k e m = absurd (Memᴰ.not-nil m)
   none_means (at ∷ places) k e m =
       let p = split_none (found at (fault_at s at)) (findings_at s places) k in
       ⊎_elim (λ q. ap (fault_of (reply s)) q ∙ found_none at (fault_at s at) p.0) (λ n. none_means places p.1 e n) (Memᴰ.cases_cons m)
 
-  means_none : (places : List ℕ) → ((e : Entry) → Memᴰ e (map (line_at s) places) → fault_of (reply s) e ≡ Sound) → findings_at s places ≡ []
+  means_none : (places : List ℕ) → ((e : Entry) → Memᴰ e (map (line_at s) places) → fault_of (reply s) e ≡ None) → findings_at s places ≡ []
   unfolding findings_at
   means_none [] f = refl
   means_none (at ∷ places) f = let q = f (line_at s at) (Memᴰ.head refl) in rw q (means_none places (λ e m. f e (Memᴰ.tail m)))
@@ -235,12 +233,12 @@ abbrev pub check_zero : List ℕ
 check_zero = 0x28 ∷ 0x63 ∷ 0x68 ∷ 0x65 ∷ 0x63 ∷ 0x6B ∷ 0x20 ∷ 0x30 ∷ 0x29 ∷ 0x0A ∷ []
 
 module _ (s : List ℕ) where
-  one_long : (at : ℕ) (f : Fault) (rest : List Finding) → 12 * length rest ≤ length (finding_lines s rest) → 12 * length (found at f ++ rest) ≤ length (finding_lines s (found at f ++ rest))
+  one_long : (at : ℕ) (f : Option Fault) (rest : List Finding) → 12 * length rest ≤ length (finding_lines s rest) → 12 * length (found at f ++ rest) ≤ length (finding_lines s (found at f ++ rest))
   unfolding finding_lines finding_line
-  one_long at Sound rest h = h
-  one_long at Missing rest h = simp length-append (omega arith)
-  one_long at NotVerb rest h = simp length-append (omega arith)
-  one_long at Unused rest h = simp length-append (omega arith)
+  one_long at None rest h = h
+  one_long at (Some Missing) rest h = simp length-append (omega arith)
+  one_long at (Some NotVerb) rest h = simp length-append (omega arith)
+  one_long at (Some Unused) rest h = simp length-append (omega arith)
 
   lines_long : (places : List ℕ) → 12 * length (findings_at s places) ≤ length (finding_lines s (findings_at s places))
   unfolding findings_at finding_lines
@@ -268,54 +266,44 @@ module _ (s : List ℕ) where
 
   -- what is reported are the lines whose reference does not hold, and nothing besides
   abbrev Wrong : List ℕ → Finding → Type 0
-  Wrong places f = Memᴰ f.line places × (fault_at s f.line ≡ f.fault) × (f.fault ≡ Sound → ⊥)
+  Wrong places f = Memᴰ f.line places × (fault_at s f.line ≡ Some f.fault)
 
-  wrong_here : (at : ℕ) (places : List ℕ) (x : Fault) → fault_at s at ≡ x → (x ≡ Sound → ⊥) → (f : Finding) → f ≡ record { line = at; fault = x } → Wrong (at ∷ places) f
-  wrong_here at places x e n f q = subst (Wrong (at ∷ places)) (sym q) (Memᴰ.head refl, e, n)
+  wrong_here : (at : ℕ) (places : List ℕ) (x : Fault) → fault_at s at ≡ Some x → (f : Finding) → f ≡ record { line = at; fault = x } → Wrong (at ∷ places) f
+  wrong_here at places x e f q = subst (Wrong (at ∷ places)) (sym q) (Memᴰ.head refl, e)
 
   wrong_later : (at : ℕ) (places : List ℕ) (f : Finding) → Wrong places f → Wrong (at ∷ places) f
-  wrong_later at places f w = (Memᴰ.tail w.0, w.1, w.2)
+  wrong_later at places f w = (Memᴰ.tail w.0, w.1)
 
   reported : (places : List ℕ) (f : Finding) → Memᴰ f (findings_at s places) → Wrong places f
   unfolding findings_at
   reported [] f m = absurd (Memᴰ.not-nil m)
   reported (at ∷ places) f m = by (fault_at s at) refl m (reported places f)
     where
-      by : (x : Fault) → fault_at s at ≡ x → Memᴰ f (found at x ++ findings_at s places) → (Memᴰ f (findings_at s places) → Wrong places f) → Wrong (at ∷ places) f
-      by Sound e m rest = wrong_later at places f (rest m)
-      by Missing e m rest = ⊎_elim (wrong_here at places Missing e (λ z. let y : ◌≡◌ {A = ℕ} 0 1 = cc in omega arith) f) (λ k. wrong_later at places f (rest k)) (Memᴰ.cases_cons m)
-      by NotVerb e m rest = ⊎_elim (wrong_here at places NotVerb e (λ z. let y : ◌≡◌ {A = ℕ} 0 1 = cc in omega arith) f) (λ k. wrong_later at places f (rest k)) (Memᴰ.cases_cons m)
-      by Unused e m rest = ⊎_elim (wrong_here at places Unused e (λ z. let y : ◌≡◌ {A = ℕ} 0 1 = cc in omega arith) f) (λ k. wrong_later at places f (rest k)) (Memᴰ.cases_cons m)
+      by : (x : Option Fault) → fault_at s at ≡ x → Memᴰ f (found at x ++ findings_at s places) → (Memᴰ f (findings_at s places) → Wrong places f) → Wrong (at ∷ places) f
+      by None e m rest = wrong_later at places f (rest m)
+      by (Some x) e m rest = ⊎_elim (wrong_here at places x e f) (λ k. wrong_later at places f (rest k)) (Memᴰ.cases_cons m)
 
-  behind-found : (at : ℕ) (x : Fault) (rest : List Finding) (f : Finding) → Memᴰ f rest → Memᴰ f (found at x ++ rest)
-  behind-found at Sound rest f m = m
-  behind-found at Missing rest f m = Memᴰ.tail m
-  behind-found at NotVerb rest f m = Memᴰ.tail m
-  behind-found at Unused rest f m = Memᴰ.tail m
-
-  is_found : (at : ℕ) (x : Fault) (rest : List Finding) → (x ≡ Sound → ⊥) → Memᴰ (record { line = at; fault = x }) (found at x ++ rest)
-  is_found at Sound rest n = absurd (n refl)
-  is_found at Missing rest n = Memᴰ.head refl
-  is_found at NotVerb rest n = Memᴰ.head refl
-  is_found at Unused rest n = Memᴰ.head refl
+  behind-found : (at : ℕ) (x : Option Fault) (rest : List Finding) (f : Finding) → Memᴰ f rest → Memᴰ f (found at x ++ rest)
+  behind-found at None rest f m = m
+  behind-found at (Some x) rest f m = Memᴰ.tail m
 
   all_found : (places : List ℕ) (f : Finding) → Wrong places f → Memᴰ f (findings_at s places)
   unfolding findings_at
   all_found [] f w = absurd (Memᴰ.not-nil w.0)
   all_found (at ∷ places) f w =
-      ⊎_elim here (λ k. behind-found at (fault_at s at) (findings_at s places) f (all_found places f (k, w.1, w.2))) (Memᴰ.cases_cons w.0)
+      ⊎_elim here (λ k. behind-found at (fault_at s at) (findings_at s places) f (all_found places f (k, w.1))) (Memᴰ.cases_cons w.0)
     where
       here : f.line ≡ at → Memᴰ f (found at (fault_at s at) ++ findings_at s places)
       here e =
-          let x : fault_at s at ≡ f.fault = ap (fault_at s) (sym e) ∙ w.1 in
+          let x : fault_at s at ≡ Some f.fault = ap (fault_at s) (sym e) ∙ w.1 in
           let r : record { line = at; fault = f.fault } ≡ f = ap (λ (n : ℕ). record { line = n; fault = f.fault }) (sym e) in
           subst (λ (g : Finding). Memᴰ g (found at (fault_at s at) ++ findings_at s places)) r
-          (subst (λ (y : Fault). Memᴰ (record { line = at; fault = f.fault }) (found at y ++ findings_at s places)) (sym x) (is_found at f.fault (findings_at s places) w.2))
+          (subst (λ (y : Option Fault). Memᴰ (record { line = at; fault = f.fault }) (found at y ++ findings_at s places)) (sym x) (Memᴰ.head refl))
 
   pub found_exactly : (f : Finding) → Memᴰ f (findings_of s) ↔ IsFinding s f
   found_exactly f = (
-    λ m. let w = reported (starts_of s) f m in record { begins = w.0; wrong = w.1; unsound = w.2 },
-    λ i. all_found (starts_of s) f (i.begins, i.wrong, i.unsound),
+    λ m. let w = reported (starts_of s) f m in record { begins = w.0; wrong = w.1 },
+    λ i. all_found (starts_of s) f (i.begins, i.wrong),
   )
 
   -- in the sheet's order, each line once
@@ -333,11 +321,9 @@ module _ (s : List ℕ) where
   findings_ascend n [] a = tt
   findings_ascend n (at ∷ places) a = by (fault_at s at) (findings_ascend (suc at) places a.1)
     where
-      by : (x : Fault) → Ascending (suc at) (map (λ f. f.line) (findings_at s places)) → Ascending n (map (λ f. f.line) (found at x ++ findings_at s places))
-      by Sound r = let k = a.0 in lower n (suc at) (map (λ f. f.line) (findings_at s places)) (omega arith) r
-      by Missing r = (a.0, r)
-      by NotVerb r = (a.0, r)
-      by Unused r = (a.0, r)
+      by : (x : Option Fault) → Ascending (suc at) (map (λ f. f.line) (findings_at s places)) → Ascending n (map (λ f. f.line) (found at x ++ findings_at s places))
+      by None r = let k = a.0 in lower n (suc at) (map (λ f. f.line) (findings_at s places)) (omega arith) r
+      by (Some x) r = (a.0, r)
 
   pub in_order_lem : Ascending 0 (map (λ f. f.line) (findings_of s))
   in_order_lem = findings_ascend 0 (starts_of s) (starts_ascend true 0 s)
@@ -380,10 +366,4 @@ module _ (s : List ℕ) where
 
   -- a code says its finding again
   pub read_back_lem : (f : Finding) → Memᴰ f (findings_of s) → (code_of f / 256 ≡ f.line) × (fault_in (code_of f) ≡ f.fault)
-  read_back_lem f m = code-back s f.line f.fault (some f.line f.fault ((found_exactly f).0 m).unsound)
-    where
-      some : (at : ℕ) (x : Fault) → (x ≡ Sound → ⊥) → 0 < code_for at x
-      some at Sound n = absurd (n refl)
-      some at Missing n = omega arith
-      some at NotVerb n = omega arith
-      some at Unused n = omega arith
+  read_back_lem f m = code-back s f.line f.fault

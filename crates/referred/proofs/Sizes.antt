@@ -1,5 +1,5 @@
 -- How long a report is: no line of it is longer than the line that it speaks of. Assumes nothing.
-use Rattle.std.specs.Prelude.{Ok}
+use Rattle.std.specs.Prelude.{Ok, Option, Some, None}
 use Prim.Native.Nat.{ℕ, suc, ◌+◌, ◌≤◌, ◌<◌}
 use native.Mathlib.Omega.{arith}
 use mathlib.Core.Path.{◌≡◌, refl, ap}
@@ -24,7 +24,7 @@ use Rattle.lookup.proofs.Count.{few-lines}
 use Rattle.writing.specs.Decimal.{decimal}
 use Rattle.writing.proofs.Sizes.{count-size, more-size}
 use Rattle.referred.specs.declared.Fault.{Fault}
-use Rattle.referred.specs.declared.Fault.TheVariants.{Sound, Missing, NotVerb, Unused}
+use Rattle.referred.specs.declared.Fault.TheVariants.{Missing, NotVerb, Unused}
 use Rattle.referred.specs.Report.{verb_fault, is_text, fault_of, fault_at, Finding, found, findings_at, findings_of, finding_line, finding_lines, report_text}
 
 -- a number below 10,000 has at most four digits
@@ -32,17 +32,17 @@ four_size : (n : ℕ) → n < 10000 → length (decimal n) ≤ 4
 four_size n h = more-size 2 1000 (λ n h. more-size 1 100 count-size n (omega arith)) n (omega arith)
 
 -- how long a value is at least, by what is wrong with its line
-abbrev least : Fault → ℕ
-least Sound = 0
-least Missing = 6
-least NotVerb = 6
-least Unused = 4
+abbrev least : Option Fault → ℕ
+least None = 0
+least (Some Missing) = 6
+least (Some NotVerb) = 6
+least (Some Unused) = 4
 
 verb_least : (r : Reply) → least (verb_fault r) ≤ 6
 verb_least Reply.unknown = omega arith
 verb_least (Reply.told v) = by (letters_of v).verb
   where
-    by : (b : Bool) → least (pick b Sound NotVerb) ≤ 6
+    by : (b : Bool) → least (pick b None (Some NotVerb)) ≤ 6
     by true = omega arith
     by false = omega arith
 
@@ -60,13 +60,13 @@ value_long : (ask : Ask) (e : Entry) → is_meant e ≡ true → least (fault_of
 unfolding fault_of is_meant
 value_long ask e m = by (eqb e.letter 0x6C) (eqb e.letter 0x6B) refl refl m
   where
-    unused : (b : Bool) → least (pick b Sound Unused) ≤ 4
+    unused : (b : Bool) → least (pick b None (Some Unused)) ≤ 4
     unused true = omega arith
     unused false = omega arith
 
     by : (l k : Bool) → eqb e.letter 0x6C ≡ l → eqb e.letter 0x6B ≡ k
         → pick k (is_kind e.value) (pick l ((ends_in sign_i e.name || ends_in letter_i e.name) && is_name e.value && ends_in syllable_nu e.value) (pick (eqb e.letter 0x77) (is_letters e.value) false)) ≡ true
-        → least (pick l (verb_fault (ask 0x77 e.value)) (pick k (pick (is_text (key e) affixes) Sound Unused) Sound)) ≤ length e.value
+        → least (pick l (verb_fault (ask 0x77 e.value)) (pick k (pick (is_text (key e) affixes) None (Some Unused)) None)) ≤ length e.value
     by true true p q h = let a = eqb-true e.letter 0x6C p in let b = eqb-true e.letter 0x6B q in absurd (omega arith)
     by true false p q h =
         let n = ends-fits syllable_nu e.value (and_right ((ends_in sign_i e.name || ends_in letter_i e.name) && is_name e.value) (ends_in syllable_nu e.value) h) in
@@ -76,13 +76,13 @@ value_long ask e m = by (eqb e.letter 0x6C) (eqb e.letter 0x6B) refl refl m
     by false false p q h = omega arith
 
 module _ (s : List ℕ) where
-  one_size : (at : ℕ) (f : Fault) (rest : List Finding) (n : ℕ) → least f ≤ length (line_at s at).value → length (finding_lines s rest) ≤ n
+  one_size : (at : ℕ) (f : Option Fault) (rest : List Finding) (n : ℕ) → least f ≤ length (line_at s at).value → length (finding_lines s rest) ≤ n
       → length (finding_lines s (found at f ++ rest)) ≤ length (written (line_at s at)) + n
   unfolding finding_lines finding_line
-  one_size at Sound rest n h k = omega arith
-  one_size at Missing rest n h k = let w = written-length (line_at s at) in simp length-append (omega arith)
-  one_size at NotVerb rest n h k = let w = written-length (line_at s at) in simp length-append (omega arith)
-  one_size at Unused rest n h k = let w = written-length (line_at s at) in simp length-append (omega arith)
+  one_size at None rest n h k = omega arith
+  one_size at (Some Missing) rest n h k = let w = written-length (line_at s at) in simp length-append (omega arith)
+  one_size at (Some NotVerb) rest n h k = let w = written-length (line_at s at) in simp length-append (omega arith)
+  one_size at (Some Unused) rest n h k = let w = written-length (line_at s at) in simp length-append (omega arith)
 
   lines-size : (last places : List ℕ) → GoesUp s last places → length (finding_lines s (findings_at s places)) ≤ length (sheet_text (map (line_at s) places))
   unfolding findings_at finding_lines
@@ -91,11 +91,9 @@ module _ (s : List ℕ) where
       let r = one_size at (fault_at s at) (findings_at s places) _ (value_long (reply s) (line_at s at) (form_meant (drop at s) g.0)) (lines-size (key (line_at s at)) places g.2) in
       simp length-append r
 
-  one_more : (at : ℕ) (f : Fault) (rest : List Finding) → length (found at f ++ rest) ≤ suc (length rest)
-  one_more at Sound rest = omega arith
-  one_more at Missing rest = omega arith
-  one_more at NotVerb rest = omega arith
-  one_more at Unused rest = omega arith
+  one_more : (at : ℕ) (f : Option Fault) (rest : List Finding) → length (found at f ++ rest) ≤ suc (length rest)
+  one_more at None rest = omega arith
+  one_more at (Some f) rest = omega arith
 
   pub findings_few : (places : List ℕ) → length (findings_at s places) ≤ length places
   unfolding findings_at

@@ -5,7 +5,7 @@ use Rattle.sheet.specs.Forms.{is_form}
 use Rattle.sheet.specs.Lines.{line_at}
 use Rattle.writing.specs.Decimal.{decimal}
 use Rattle.referred.specs.declared.Fault.{Fault}
-use Rattle.referred.specs.declared.Fault.TheVariants.{Sound, Missing, NotVerb, Unused}
+use Rattle.referred.specs.declared.Fault.TheVariants.{Missing, NotVerb, Unused}
 use Rattle.referred.specs.Report.{before, behind}
 
 -- a form stands at each place that a code says
@@ -13,7 +13,7 @@ abbrev pub FormsAt : List ℕ → List ℕ → Type 0
 FormsAt s cs = (k : ℕ) → k < length cs → is_form (drop (get_or cs k 0 / 256) s) ≡ true
 
 unfoldable pub fault_in : ℕ → Fault
-fault_in c = pick (eqb (c % 256) 1) Missing (pick (eqb (c % 256) 2) NotVerb (pick (eqb (c % 256) 3) Unused Sound))
+fault_in c = pick (eqb (c % 256) 1) Missing (pick (eqb (c % 256) 2) NotVerb Unused)
 
 unfoldable pub code_line : List ℕ → ℕ → List ℕ
 code_line s c = before (fault_in c) ++ ((line_at s (c / 256)).name ++ behind (fault_in c))

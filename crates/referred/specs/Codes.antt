@@ -2,11 +2,10 @@
 -- line. Assumes nothing.
 use Rattle.std.specs.Prelude.{ℕ, ◌+◌, ◌*◌, List, map}
 use Rattle.referred.specs.declared.Fault.{Fault}
-use Rattle.referred.specs.declared.Fault.TheVariants.{Sound, Missing, NotVerb, Unused}
+use Rattle.referred.specs.declared.Fault.TheVariants.{Missing, NotVerb, Unused}
 use Rattle.referred.specs.Report.{Finding}
 
 abbrev pub code_for : ℕ → Fault → ℕ
-code_for at Sound = 0
 code_for at Missing = at * 256 + 1
 code_for at NotVerb = at * 256 + 2
 code_for at Unused = at * 256 + 3

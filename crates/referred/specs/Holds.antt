@@ -1,11 +1,10 @@
 -- That what the lines of a sheet refer to is there, said of the lines alone (document 02 (k)). Assumes nothing.
-use Rattle.std.specs.Prelude.{ℕ, suc, ◌≤◌, ◌≡◌, true}
+use Rattle.std.specs.Prelude.{ℕ, suc, ◌≤◌, ◌≡◌, true, Some}
 use mathlib.Core.List.{List, [], ◌∷◌, Memᴰ}
 use Rattle.tables.specs.Tables.{affixes}
 use Rattle.sheet.specs.Letters.{letters_of}
 use Rattle.sheet.specs.Forms.{Entry, key, key_of}
 use Rattle.sheet.specs.Lines.{starts_of}
-use Rattle.referred.specs.declared.Fault.TheVariants.{Sound}
 use Rattle.referred.specs.Report.{fault_at, Finding}
 
 -- f is the `w` line of the infinitive that the link e names
@@ -38,5 +37,4 @@ Ascending n (x ∷ xs) = (n ≤ x) × Ascending (suc x) xs
 -- f is a line of the sheet whose reference does not hold: a line begins at its place, and that is wrong with it
 pub record IsFinding (s : List ℕ) (f : Finding) : Type 0 where
   pub begins : Memᴰ f.line (starts_of s)
-  pub wrong : fault_at s f.line ≡ f.fault
-  pub unsound : f.fault ≡ Sound → ⊥
+  pub wrong : fault_at s f.line ≡ Some f.fault

@@ -7,11 +7,10 @@ mod faults;
 mod lines;
 pub mod whole;
 
-// What is wrong with what a line refers to: nothing; a link whose infinitive has no `w` line, or one without v; a suffix that is none of
-// the 25 texts.
+// What is wrong with what a line refers to: a link whose infinitive has no `w` line, or one without v; a suffix that is none of the 25
+// texts.
 #[derive(Clone, Copy)]
 pub enum Fault {
-    Sound,
     Missing,
     NotVerb,
     Unused,

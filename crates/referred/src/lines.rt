@@ -1,9 +1,11 @@
 // The report as text.
-ghost use Rattle.std.specs.Prelude.{ℕ, List, ◌≡◌, true, ◌/◌, drop};
+ghost use Rattle.std.specs.Prelude.{ℕ, List, ◌≡◌, true, ◌/◌, drop, Ok};
 ghost use Rattle.sheet.specs.Forms.{is_form};
 ghost use Rattle.writing.specs.Writers.{with_text};
-ghost use Rattle.referred.specs.Report.{before, behind};
-ghost use Rattle.referred.specs.Coded.{FormsAt, fault_in, code_line, coded_text};
+ghost use Rattle.sheet.specs.Lines.{sheet_check};
+ghost use Rattle.referred.specs.Report.{before, behind, findings_of, report_text};
+ghost use Rattle.referred.specs.Codes.{codes_of};
+ghost use Rattle.referred.specs.Coded.{fault_in, code_line};
 
 use crate::Fault;
 use sheet::line::name_end;
@@ -14,7 +16,6 @@ fn before(fault: Fault) -> &'static [u8]
     ensures { result.now ≡ before fault }
 {
     match fault {
-        Fault::Sound => b"",
         Fault::Missing | Fault::NotVerb => b"(l ",
         Fault::Unused => b"(k ",
     }
@@ -25,7 +26,6 @@ fn behind(fault: Fault) -> &'static [u8]
     ensures { result.now ≡ behind fault }
 {
     match fault {
-        Fault::Sound => b"",
         Fault::Missing => b" missing)\n",
         Fault::NotVerb => b" notverb)\n",
         Fault::Unused => b" unused)\n",
@@ -40,8 +40,7 @@ fn fault_in(code: u32) -> Fault
     match code % 256 {
         1 => Fault::Missing,
         2 => Fault::NotVerb,
-        3 => Fault::Unused,
-        _ => Fault::Sound,
+        _ => Fault::Unused,
     }
 }
 
@@ -59,17 +58,18 @@ fn put_line(w: &mut Writer, sheet: &[u8], code: u32)
     w.put(behind(fault));
 }
 
-// The report of a sheet whose findings are these codes.
+// The report of an accepted sheet: the codes of its findings.
 #[derive(Drop)]
 pub(crate) struct Report<'s> {
     pub sheet: &'s [u8],
     pub codes: &'s [u32],
-    ghost forms: { FormsAt sheet.now codes.now },
+    ghost accepted: { sheet_check sheet.now ≡ Ok tt },
+    ghost found: { codes.now ≡ codes_of (findings_of sheet.now) },
 }
 
 // How many there are, and a line for each.
 impl Printed for Report<'_> {
-    ghost text = { λ r. coded_text r.sheet.now r.codes.now };
+    ghost text = { λ r. report_text r.sheet.now };
 
     #[tactic(auto, using(std::proofs::lemmas::Grind::common_steps, crate::proofs::Found::lines_turn, crate::proofs::Found::lines_end), unfolding(crate::specs::Coded::coded_text))]
     fn put(&self, w: &mut Writer) {

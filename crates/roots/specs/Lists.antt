@@ -1,29 +1,19 @@
 -- The list of candidates in rank order, each root with its prefixes and suffixes once. Assumes nothing.
-use Rattle.std.specs.Prelude.{ℕ, zero, suc, Bool, true, false, List, [], ◌∷◌, take, Option, None, Some}
+use Rattle.std.specs.Prelude.{ℕ, Bool, true, false, List, [], ◌∷◌}
 use Rattle.runs.specs.Runs.{pick}
 use Rattle.tables.specs.declared.origins.Origin.TheVariants.{Tatsam}
 use Rattle.decomposition.specs.declared.Parts.{Parts}
 use Rattle.roots.specs.Rank.{is_equal, key_order, ahead_of}
 use Rattle.roots.specs.declared.RootCandidate.{RootCandidate}
-use Rattle.roots.specs.declared.Roots.{Roots}
 
 -- the most candidates of a word
 abbrev pub root_limit : ℕ
 root_limit = 16
 
--- the rows of a list: as many as it counts
-abbrev pub rows_of : Roots → List RootCandidate
-rows_of l = take l.count l.rows
-
 -- there is a row
 abbrev pub is_some : List RootCandidate → Bool
 is_some [] = false
 is_some (x ∷ xs) = true
-
--- the first row, if there is one
-abbrev pub first_in : List RootCandidate → Option RootCandidate
-first_in [] = None
-first_in (x ∷ xs) = Some x
 
 -- some row has the root, prefixes and suffixes of p
 unfoldable pub holds_in : List ℕ → Parts → List RootCandidate → Bool
@@ -34,11 +24,6 @@ holds_in w p (x ∷ xs) = pick (is_equal (key_order w p x.parts)) true (holds_in
 unfoldable pub ranked : List ℕ → RootCandidate → List RootCandidate → List RootCandidate
 ranked w r [] = r ∷ []
 ranked w r (x ∷ xs) = pick (ahead_of w r x) (r ∷ x ∷ xs) (x ∷ ranked w r xs)
-
--- the number of that row, or of rows where there is none
-unfoldable pub place_in : List ℕ → RootCandidate → List RootCandidate → ℕ
-place_in w r [] = zero
-place_in w r (x ∷ xs) = pick (ahead_of w r x) zero (suc (place_in w r xs))
 
 -- each root, prefixes, suffixes once
 unfoldable pub once : List ℕ → RootCandidate → List RootCandidate → List RootCandidate

@@ -3,12 +3,12 @@
 
 ghost use Rattle.std.specs.Prelude.{◌≡◌, ◌≤◌, length};
 ghost use Rattle.lookup.specs.Lexicons.{replies};
-ghost use Rattle.roots.specs.Lists.{rows_of, root_limit};
 ghost use Rattle.roots.specs.Candidates.{candidates};
 
-use crate::list::nothing;
-use crate::offers::Asked;
+use crate::offers::{with_prefix, with_word};
+use arrayvec::ArrayVec;
 use decomposition::{Parts, decomposed};
+use lookup::asked::Asked;
 use lookup::lexicon::Lexicon;
 use tables::origins::Origin;
 
@@ -27,24 +27,44 @@ pub struct RootCandidate {
     pub known_headword: bool,
 }
 
-// A list of candidates: the first `count` rows.
-#[derive(Clone, Copy)]
-pub struct Roots {
-    pub rows: [RootCandidate; 16],
-    pub count: usize,
+// What stands in a place that is not used.
+impl Default for RootCandidate {
+    fn default() -> RootCandidate {
+        RootCandidate {
+            score: 0,
+            parts: Parts {
+                start: 0,
+                end: 0,
+                prefix: 0,
+                prefix_count: 0,
+                suffix_count: 0,
+                suffixes: [0; 24],
+            },
+            origin: Origin::Deshaj,
+            known_word: false,
+            known_headword: false,
+        }
+    }
 }
 
-// The candidates of a word by an accepted sheet, in rank order. The word has at most 192 bytes. Free: the rows past the count.
+// The most candidates of a word.
+pub const LIMIT: usize = 16;
+
+// The list of a word's candidates, in rank order.
+pub type Roots = ArrayVec<RootCandidate, LIMIT>;
+
+// The candidates of a word by an accepted sheet, in rank order. The word has at most 192 bytes.
 pub fn collect_candidates(word: &[u8], sheet: &Lexicon<'_>) -> Roots
     requires { length word.now ≤ 192 }
-    ensures { (rows_of result ≡ candidates (replies sheet.now) word.now) × (result.count ≤ root_limit) }
+    ensures { result.items ≡ candidates (replies sheet.now) word.now }
 {
     let asked = Asked {
         word,
         sheet,
         surface: text::characters::count(word) as u16,
     };
-    let parts = decomposed(sheet, word);
-    let list = asked.with_word(parts, nothing());
-    asked.with_prefix(list)
+    let mut list = ArrayVec::new();
+    with_word(&asked, decomposed(sheet, word), &mut list);
+    with_prefix(&asked, &mut list);
+    list
 }

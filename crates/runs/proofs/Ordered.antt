@@ -6,11 +6,12 @@ use mathlib.Core.List.{List, [], ◌∷◌}
 use Prim.Native.Nat.{ℕ, ◌<◌, ◌≤◌}
 use native.Mathlib.Nat.{le_antisymm}
 use native.Mathlib.Omega.{arith}
-use lib.ListN.{length, drop, drop_of_length-le}
-use lib.Seq.{drop-cons}
 use lib.Dec.{eqb, ltb}
 use borrow.Author.Tests.{ltb-true, ltb-false, lt-ltb, le-ltb, eq-eqb, ne_eqb}
 use Rattle.runs.specs.Runs.{pick, same_text, cmp}
+use Rattle.std.specs.Ordering.{nat_cmp, ordering_then}
+use Rattle.std.specs.Cmp.{nat_cmp_is}
+use Rattle.std.specs.Cmp.Lexicographic.{slice_cmp}
 use Rattle.std.specs.declared.cmp.Ordering.{Ordering}
 use Rattle.std.specs.declared.cmp.Ordering.TheVariants.{Less, Equal, Greater}
 
@@ -117,13 +118,17 @@ same_true a b e = go (cmp a b) refl (sym (same_cmp a b) ∙ e)
     go Equal p q = cmp_equal a b p
     go Greater p q = cc
 
--- one of two runs ends at the i-th byte, the other goes on
-module _ (a b : List ℕ) (i : ℕ) where
-  pub turn_long : i < length a → length b ≤ i → cmp (drop i a) (drop i b) ≡ Greater
-  turn_long p q = rw (drop-cons a i 0, drop_of_length-le b q)
-
-  pub turn_short : length a ≤ i → i < length b → cmp (drop i a) (drop i b) ≡ Less
-  turn_short p q = rw (drop-cons b i 0, drop_of_length-le a p)
+-- the library's order of lists of numbers
+pub compared : (a b : List ℕ) → slice_cmp nat_cmp a b ≡ cmp a b
+compared [] [] = refl
+compared [] (y ∷ ys) = refl
+compared (x ∷ xs) [] = refl
+compared (x ∷ xs) (y ∷ ys) = go (stand x y) (compared xs ys)
+  where
+    go : Stand x y → slice_cmp nat_cmp xs ys ≡ cmp xs ys → ordering_then (nat_cmp x y) (slice_cmp nat_cmp xs ys) ≡ step x y (cmp xs ys)
+    go (below h) e = ap (λ (o : Ordering). ordering_then o (slice_cmp nat_cmp xs ys)) (sym (nat_cmp_is x y Less h)) ∙ sym (step_less x y _ h)
+    go (above h) e = ap (λ (o : Ordering). ordering_then o (slice_cmp nat_cmp xs ys)) (sym (nat_cmp_is x y Greater h)) ∙ sym (step_greater x y _ h)
+    go (alike h) e = ap (λ (o : Ordering). ordering_then o (slice_cmp nat_cmp xs ys)) (sym (nat_cmp_is x y Equal h)) ∙ e ∙ sym (step_same x y _ h)
 
 -- a question in two parts: what the first leaves open the second decides
 abbrev pub and_then : Ordering → Ordering → Ordering

@@ -17,27 +17,11 @@ pub fn same(a: &[u8], b: &[u8]) -> bool
 
 // The order of a and b by their first byte that differs; a run stands before each longer one that it begins.
 // It takes any two runs.
-#[tactic(auto, using(crate::proofs::Ordered::turn_long, crate::proofs::Ordered::turn_short))]
+#[tactic(auto, using(crate::proofs::Ordered::compared))]
 pub fn compare(a: &[u8], b: &[u8]) -> Ordering
     ensures { result ≡ cmp a.now b.now }
 {
-    let mut i = 0;
-    while i < a.len() {
-        if b.len() <= i {
-            return Ordering::Greater;
-        }
-        if a[i] < b[i] {
-            return Ordering::Less;
-        }
-        if b[i] < a[i] {
-            return Ordering::Greater;
-        }
-        i += 1;
-    }
-    if i < b.len() {
-        return Ordering::Less;
-    }
-    Ordering::Equal
+    a.cmp(&b)
 }
 
 // Whether head stands at the front of s. It takes any two runs, a head longer than s too.

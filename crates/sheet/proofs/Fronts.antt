@@ -1,13 +1,16 @@
 -- The bytes before the first one that no name holds, read one by one. The proofs of `read_name` and of a line's shape cite these.
 -- Assumes nothing.
+use Rattle.std.specs.Prelude.{Option, Some, None}
+use Rattle.std.specs.List.{position, position_or_len}
+use Rattle.std.specs.Option.{unwrap_or}
 use Prim.Native.Nat.{ℕ, zero, suc, ◌+◌, ◌-◌, ◌<◌, ◌≤◌}
 use native.Mathlib.Omega.{arith}
 use native.Mathlib.Numerals.{add-one}
-use mathlib.Core.Path.{◌≡◌, refl, sym, ap, ◌∙◌}
-use mathlib.Core.Bool.{Bool, true, false, ◌&&◌, and-true}
+use mathlib.Core.Path.{◌≡◌, refl, sym, ap, subst, ◌∙◌}
+use mathlib.Core.Bool.{Bool, true, false, not, cond, ◌&&◌, and-true}
 use mathlib.Core.List.{List, [], ◌∷◌}
-use lib.ListN.{length, take, drop, get_or, drop_of_length-le}
-use lib.Seq.{drop-cons}
+use lib.ListN.{length, take, drop, get_or, drop_of_length-le, length-drop, length-take}
+use lib.Seq.{drop-cons, drop-drop, take_all, get_or-drop}
 use lib.Dec.{ltb, leb}
 use Rattle.runs.specs.Runs.{pick}
 use Rattle.text.specs.Utf8.{Owed, owes, run, whole, is_utf8, after}
@@ -17,7 +20,7 @@ use Rattle.text.proofs.Ranges.{inside}
 use Rattle.sheet.specs.Limits.{name_limit}
 use Rattle.sheet.specs.Forms.{front, is_name}
 use Rattle.sheet.specs.Passing.{Three, Passed}
-use borrow.Author.Tests.{lt-leb, ne_eqb}
+use borrow.Author.Tests.{lt-leb, ne_eqb, ltb-false}
 
 -- a run's first byte, forbidden or not
 module _ (b : ℕ) (t : List ℕ) where
@@ -37,6 +40,38 @@ run_inside (b ∷ t) = by (forbidden b) (run_inside t)
     by : (f : Bool) → name_run t ≤ length t → pick f zero (suc (name_run t)) ≤ suc (length t)
     by true h = omega arith
     by false h = omega arith
+
+-- the first byte that no name holds ends it
+run_place : (t : List ℕ) → name_run t ≡ position_or_len forbidden t
+unfolding name_run
+run_place [] = refl
+run_place (b ∷ t) = by (forbidden b) (run_place t)
+  where
+    by : (f : Bool) → name_run t ≡ position_or_len forbidden t → pick f zero (suc (name_run t)) ≡ cond (not f) (1 + position_or_len forbidden t) 0
+    by true h = refl
+    by false h = omega arith
+
+run_met : (t : List ℕ) → name_run t ≡ unwrap_or (position forbidden t) (length t)
+run_met t = run_place t ∙ by (ltb p (length t)) refl
+  where
+    p : ℕ
+    p = position_or_len forbidden t
+
+    by : (f : Bool) → ltb p (length t) ≡ f → p ≡ unwrap_or (cond f (Some p) None) (length t)
+    by true e = refl
+    by false e = omega (arith, ltb-false p (length t) e, run_place t, run_inside t)
+
+-- where o is found from byte i of s on
+pub run_found : (s : List ℕ) (i r : ℕ) (o : Option ℕ) → i ≤ length s → o ≡ position forbidden (take (length s - i) (drop i s))
+    → r ≡ unwrap_or o (length (take (length s - i) (drop i s))) → (i + r ≡ i + name_run (drop i s)) × (i + r ≤ length s)
+run_found s i r o h e f =
+    let n : length (drop i s) ≡ length s - i = length-drop i s in
+    let q : take (length s - i) (drop i s) ≡ drop i s = take_all (length s - i) (drop i s) (omega arith) in
+    let p : r ≡ name_run (drop i s) =
+    f ∙ ap (λ (x : Option ℕ). unwrap_or x (length (take (length s - i) (drop i s)))) e
+    ∙ ap (λ (l : List ℕ). unwrap_or (position forbidden l) (length l)) q ∙ sym (run_met (drop i s)) in
+    let k = run_inside (drop i s) in
+    (omega arith, omega arith)
 
 pub front_length : (t : List ℕ) → length (front t) ≡ name_run t
 unfolding name_run
@@ -135,3 +170,54 @@ module _ (s : List ℕ) (i : ℕ) (t : Three s i) where
 
 pub passed_none : (s : List ℕ) (a : ℕ) → a ≤ length s → Passed s a a
 passed_none s a h = record { ahead = omega arith; inside = h; counted = refl; owed = refl }
+
+-- the bytes that are ahead, where those before them from `from` on have been passed
+pub record Ahead (s : List ℕ) (from : ℕ) (rest : List ℕ) : Type 0 where
+  pub within : length rest ≤ length s
+  pub behind : rest ≡ drop (length s - length rest) s
+  pub passed : Passed s from (length s - length rest)
+
+ahead_from : (s : List ℕ) (from : ℕ) (rest : List ℕ) (n : ℕ) → rest ≡ drop n s → n ≤ length s → Passed s from n → Ahead s from rest
+ahead_from s from rest n e h p =
+    let l : length rest ≡ length s - n = ap length e ∙ length-drop n s in
+    let m : length s - length rest ≡ n = omega arith in
+    record { within = omega arith; behind = e ∙ ap (λ (x : ℕ). drop x s) (sym m); passed = subst (Passed s from) (sym m) p }
+
+pub ahead_all : (s : List ℕ) (from : ℕ) → from ≤ length s → Ahead s from (take (length s - from) (drop from s))
+ahead_all s from h =
+    let n : length (drop from s) ≡ length s - from = length-drop from s in
+    ahead_from s from _ from (take_all (length s - from) (drop from s) (omega arith)) h (passed_none s from h)
+
+pub ahead_on : (s : List ℕ) (from : ℕ) (rest : List ℕ) → Ahead s from rest → 3 ≤ length rest → get_or rest 0 0 ≡ 0xE0
+    → 0xA0 ≤ get_or rest 1 0 → get_or rest 1 0 ≤ 0xBF → 0x80 ≤ get_or rest 2 0 → get_or rest 2 0 ≤ 0xBF
+    → Ahead s from (take (length rest - 3) (drop 3 rest))
+ahead_on s from rest a h b c d e f =
+    let n : length (drop 3 rest) ≡ length rest - 3 = length-drop 3 rest in
+    let q : take (length rest - 3) (drop 3 rest) ≡ drop 3 rest = take_all (length rest - 3) (drop 3 rest) (omega arith) in
+    let p : drop 3 rest ≡ drop (i + 3) s = ap (drop 3) a.behind ∙ drop-drop 3 i s in
+    let w = a.within in
+    ahead_from s from _ (i + 3) (q ∙ p) (omega arith) (passed_on s i three from a.passed)
+  where
+    i : ℕ
+    i = length s - length rest
+
+    at : (k : ℕ) → get_or rest k 0 ≡ get_or s (i + k) 0
+    at k = ap (λ (l : List ℕ). get_or l k 0) a.behind ∙ get_or-drop i s k 0
+
+    three : Three s i
+    three =
+        let z : i + 0 ≡ i = omega arith in
+        let x : get_or rest 0 0 ≡ get_or s i 0 = at 0 ∙ ap (λ (y : ℕ). get_or s y 0) z in
+        let y = at 1 in
+        let v = at 2 in
+        record {
+          room = omega (arith, a.within);
+          first = omega arith;
+          second_low = omega arith;
+          second_high = omega arith;
+          third_low = omega arith;
+          third_high = omega arith;
+        }
+
+pub fewer_ahead : (rest : List ℕ) (k : ℕ) → 3 ≤ length rest → length (take k (drop 3 rest)) < length rest
+fewer_ahead rest k h = simp (length-take, length-drop) (omega arith)

@@ -15,8 +15,7 @@ use std::cmp::Ordering;
 fn along(t: &[u8], p: &[u8]) -> Ordering
     ensures { result ≡ headed (spaced t.now) p.now }
 {
-    let mut i = 0;
-    while i < p.len() {
+    for i in 0..p.len() {
         if t.len() <= i {
             return Ordering::Less;
         }
@@ -25,13 +24,13 @@ fn along(t: &[u8], p: &[u8]) -> Ordering
         if b == b' ' {
             return Ordering::Less;
         }
+        if b == y {
+            continue;
+        }
         if b < y {
             return Ordering::Less;
         }
-        if y < b {
-            return Ordering::Greater;
-        }
-        i += 1;
+        return Ordering::Greater;
     }
     Ordering::Equal
 }

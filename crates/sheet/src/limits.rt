@@ -19,6 +19,3 @@ pub const ALL_STARTS: usize = MOST_LINES + 1;
 pub const SMALL_BYTES: usize = 4096;
 
 pub const FEW_STARTS: usize = SMALL_BYTES / SHORTEST_LINE + 1;
-
-// How many lines a search by halves compares at most: as often as the most lines can be halved.
-pub const ROUNDS: usize = 13;

@@ -26,46 +26,32 @@ fn head_at(t: &[u8]) -> u8
 }
 
 // Whether a value is a kind: `post` or `comp`.
+#[tactic(auto, unfolding(crate::specs::Forms::is_kind))]
 fn is_kind(value: &[u8]) -> bool
     ensures { result ≡ is_kind value.now }
 {
-    if same(value, b"post") {
-        return true;
-    }
-    same(value, b"comp")
+    same(value, b"post") || same(value, b"comp")
 }
 
 // Whether a name may be a link: it ends in ि or इ.
 fn is_link(name: &[u8]) -> bool
     ensures { result ≡ (ends_in sign_i name.now || ends_in letter_i name.now) }
 {
-    if ends_with(name, b"\xE0\xA4\xBF") {
-        return true;
-    }
-    ends_with(name, b"\xE0\xA4\x87")
+    ends_with(name, b"\xE0\xA4\xBF") || ends_with(name, b"\xE0\xA4\x87")
 }
 
 // Whether the value, a run that holds no forbidden byte, is what the first letter asks for.
+#[tactic(auto, unfolding(crate::specs::Forms::is_meant))]
 fn is_meant(letter: u8, name: &[u8], value: &[u8]) -> bool
     requires { holds_forbidden value.now ≡ false }
     ensures { result ≡ is_meant (record { letter = letter; name = name.now; value = value.now }) }
 {
-    if letter == b'k' {
-        return is_kind(value);
+    match letter {
+        b'k' => is_kind(value),
+        b'l' => { is_link(name) && is_name(value) && ends_with(value, b"\xE0\xA4\xA8\xE0\xA5\x81") }
+        b'w' => are_letters(value),
+        _ => false,
     }
-    if letter == b'l' {
-        if !is_link(name) {
-            return false;
-        }
-        if !is_name(value) {
-            return false;
-        }
-        return ends_with(value, b"\xE0\xA4\xA8\xE0\xA5\x81");
-    }
-    if letter == b'w' {
-        return are_letters(value);
-    }
-    false
 }
 
 // Where the first name of the line that begins at `at` ends. A form stands there.

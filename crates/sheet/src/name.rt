@@ -22,27 +22,16 @@ pub struct NameRead {
 fn named(len: usize, state: State) -> bool
     ensures { result ≡ (ltb 0 len && leb len name_limit && whole (owed_of state)) }
 {
-    if len == 0 {
-        return false;
-    }
-    if NAME_BYTES < len {
-        return false;
-    }
-    is_whole(state)
+    0 < len && len <= NAME_BYTES && is_whole(state)
 }
 
 // Whether a run that holds no forbidden byte is a name.
+#[tactic(auto, unfolding(crate::specs::Forms::is_name))]
 pub(crate) fn is_name(run: &[u8]) -> bool
     requires { holds_forbidden run.now ≡ false }
     ensures { result ≡ is_name run.now }
 {
-    if run.len() == 0 {
-        return false;
-    }
-    if NAME_BYTES < run.len() {
-        return false;
-    }
-    is_utf8(run)
+    !run.is_empty() && run.len() <= NAME_BYTES && is_utf8(run)
 }
 
 // Where the run of bytes that a name may hold, from `from` on, ends.
@@ -50,49 +39,24 @@ pub(crate) fn run_end(s: &[u8], from: usize) -> usize
     requires { from ≤ length s.now }
     ensures { (result ≡ from + name_run (drop from s.now)) × (result ≤ length s.now) }
 {
-    let mut i = from;
-    while i < s.len() {
-        if is_forbidden(s[i]) {
-            return i;
-        }
-        i += 1;
-    }
-    i
+    let part = &s[from..];
+    from + part
+        .iter()
+        .position(|b| is_forbidden(*b))
+        .unwrap_or(part.len())
 }
 
-// Whether a character of three bytes whose first is E0 stands at i, as every letter of Devanagari does.
-fn three_at(s: &[u8], i: usize) -> bool
-    requires { i ≤ length s.now }
-    ensures { result ≡ true → Three s.now i }
-{
-    if s.len() - i < 3 {
-        return false;
-    }
-    if s[i] != 0xE0 {
-        return false;
-    }
-    if s[i + 1] < 0xA0 {
-        return false;
-    }
-    if 0xBF < s[i + 1] {
-        return false;
-    }
-    if s[i + 2] < 0x80 {
-        return false;
-    }
-    s[i + 2] <= 0xBF
-}
-
-// The place after the run of such characters that begins at `from`. It saves their states: most names are such a run.
+// The place after the run of characters of three bytes whose first is E0, as every letter of Devanagari is, that begins at `from`. It
+// saves their states: most names are such a run.
 fn skip_threes(s: &[u8], from: usize) -> usize
     requires { from ≤ length s.now }
     ensures { Passed s.now from result }
 {
-    let mut i = from;
-    while three_at(s, i) {
-        i += 3;
+    let mut rest = &s[from..];
+    while let [0xE0, 0xA0..=0xBF, 0x80..=0xBF, tail @ ..] = rest {
+        rest = tail;
     }
-    i
+    s.len() - rest.len()
 }
 
 // Reads the name that begins at `from`.
@@ -101,8 +65,7 @@ pub(crate) fn read_name(s: &[u8], from: usize) -> NameRead
     ensures { (result.end ≡ from + name_run (drop from s.now)) × (result.end ≤ length s.now) × (result.good ≡ is_name (front (drop from s.now))) }
 {
     let mut state = State::Nothing;
-    let mut i = skip_threes(s, from);
-    while i < s.len() {
+    for i in skip_threes(s, from)..s.len() {
         let b = s[i];
         if is_forbidden(b) {
             return NameRead {
@@ -111,10 +74,9 @@ pub(crate) fn read_name(s: &[u8], from: usize) -> NameRead
             };
         }
         state = next(state, b);
-        i += 1;
     }
     NameRead {
-        end: i,
-        good: named(i - from, state),
+        end: s.len(),
+        good: named(s.len() - from, state),
     }
 }

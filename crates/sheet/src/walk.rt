@@ -39,12 +39,7 @@ fn is_above(s: &[u8], last: Option<usize>, letter: u8, name: &[u8]) -> bool
     let Some(at) = last else {
         return true;
     };
-    let order = line_order(s, at, letter, name, b"");
-    match order {
-        Ordering::Less => true,
-        Ordering::Equal => false,
-        Ordering::Greater => false,
-    }
+    line_order(s, at, letter, name, b"").is_lt()
 }
 
 impl Walk {

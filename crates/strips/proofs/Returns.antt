@@ -1,14 +1,17 @@
 -- What each way through the code comes to: the laws that the functions' own proofs cite. Assumes nothing.
-use mathlib.Core.Path.{◌≡◌, refl, sym, ◌∙◌}
-use mathlib.Core.Bool.{Bool, true, false, not, ◌&&◌}
+use Rattle.std.specs.Prelude.{Option, Some, None}
+use Rattle.std.specs.List.{position, position_or_len}
+use Rattle.std.specs.Option.{unwrap_or}
+use Rattle.std.proofs.lemmas.List.Sums.{prefix_len-le-length}
+use mathlib.Core.Path.{◌≡◌, refl, sym, ap, ◌∙◌}
+use mathlib.Core.Bool.{Bool, true, false, not, cond, ◌&&◌}
 use mathlib.Core.List.{List, [], ◌∷◌}
 use Prim.Native.Nat.{ℕ, suc, ◌+◌, ◌-◌, ◌≤◌, ◌<◌}
-use native.Mathlib.Numerals.{add-one}
 use native.Mathlib.Omega.{arith}
-use lib.ListN.{length, take, drop, get_or, drop_of_length-le, length-drop}
-use lib.Seq.{drop-cons, take_all}
+use lib.ListN.{length, take, drop, length-drop}
+use lib.Seq.{take_all}
 use lib.Dec.{eqb, leb, ltb}
-use borrow.Author.Tests.{eq-eqb, ne_eqb, lt-ltb, le-ltb, le-leb, lt-leb}
+use borrow.Author.Tests.{ltb-false, lt-ltb, le-ltb, le-leb, lt-leb}
 use Rattle.runs.specs.Runs.{pick, same_text, begins_with, ends_in}
 use Rattle.text.specs.Characters.{chars, opens}
 use Rattle.tables.specs.Tables.{letter_ii, sign_ii, is_ii}
@@ -16,27 +19,36 @@ use Rattle.runs.proofs.Begins.{and_right}
 use Rattle.strips.specs.Suffix.{goes_on, first_length, sheds, is_long, keeps_pronoun}
 use Rattle.strips.specs.Prefix.{least_after, leaves}
 
--- The first character, byte by byte.
+-- The first character: its first byte, and those up to the next that begins one.
 
-pub first-none : (t : List ℕ) → length t ≡ 0 → 0 ≡ first_length t
-first-none [] e = refl
-first-none (b ∷ t) e = absurd (omega arith)
+abbrev begins : ℕ → Bool
+begins b = eqb (opens b) 1
 
-pub first-begins : (t : List ℕ) → (length t ≡ 0 → ⊥) → first_length t ≡ 1 + goes_on (drop 1 t)
-first-begins [] h = absurd (h refl)
-first-begins (b ∷ t) h = omega arith
+goes_place : (s : List ℕ) → goes_on s ≡ position_or_len begins s
+goes_place [] = refl
+goes_place (b ∷ s) = by (begins b) (goes_place s)
+  where
+    by : (t : Bool) → goes_on s ≡ position_or_len begins s → pick t 0 (suc (goes_on s)) ≡ cond (not t) (1 + position_or_len begins s) 0
+    by true e = refl
+    by false e = omega arith
 
-goes_at : (t : List ℕ) (i : ℕ) → i < length t → goes_on (drop i t) ≡ pick (eqb (opens (get_or t i 0)) 1) 0 (suc (goes_on (drop (i + 1) t)))
-goes_at t i h = rw (add-one, drop-cons t i 0)
+goes_found : (s : List ℕ) → goes_on s ≡ unwrap_or (position begins s) (length s)
+goes_found s = goes_place s ∙ by (ltb p (length s)) refl
+  where
+    p : ℕ
+    p = position_or_len begins s
 
-pub goes_stop : (t : List ℕ) (i : ℕ) → i < length t → opens (get_or t i 0) ≡ 1 → goes_on (drop i t) ≡ 0
-goes_stop t i h e = goes_at t i h ∙ rw (eq-eqb (opens (get_or t i 0)) 1 e)
+    by : (t : Bool) → ltb p (length s) ≡ t → p ≡ unwrap_or (cond t (Some p) None) (length s)
+    by true e = refl
+    by false e = omega (arith, ltb-false p (length s) e, prefix_len-le-length (λ x. not (begins x)) s)
 
-pub goes_next : (t : List ℕ) (i : ℕ) → i < length t → (opens (get_or t i 0) ≡ 1 → ⊥) → goes_on (drop i t) ≡ suc (goes_on (drop (i + 1) t))
-goes_next t i h e = goes_at t i h ∙ rw (ne_eqb (opens (get_or t i 0)) 1 e)
-
-pub goes_end : (t : List ℕ) (i : ℕ) → length t ≤ i → goes_on (drop i t) ≡ 0
-goes_end t i h = rw (drop_of_length-le t h)
+-- r bytes go on with it, where o is the place of the next byte that begins one
+pub first_found : (t s : List ℕ) (b r : ℕ) (o : Option ℕ) → t ≡ b ∷ s → o ≡ position (λ x. eqb (opens x) 1) s → r ≡ unwrap_or o (length s)
+    → (1 + r ≡ first_length t) × (1 + r ≤ length t)
+first_found t s b r o e f g =
+    let p : r ≡ goes_on s = g ∙ ap (λ (x : Option ℕ). unwrap_or x (length s)) f ∙ sym (goes_found s) in
+    let k : goes_on s ≤ length s = omega (arith, goes_place s, prefix_len-le-length (λ x. not (begins x)) s) in
+    rw e (omega arith, omega arith)
 
 -- Whether the piece sheds the suffix, and whether that has more than one character.
 

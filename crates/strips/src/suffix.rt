@@ -16,17 +16,13 @@ pub struct Rests {
 pub fn first_char_len(t: &[u8]) -> usize
     ensures { (result ≡ first_length t.now) × (result ≤ length t.now) }
 {
-    if t.len() == 0 {
+    let Some((_, rest)) = t.split_first() else {
         return 0;
-    }
-    let mut i: usize = 1;
-    while i < t.len() {
-        if text::characters::opens_one(t[i]) == 1 {
-            return i;
-        }
-        i += 1;
-    }
-    i
+    };
+    1 + rest
+        .iter()
+        .position(|b| text::characters::opens_one(*b) == 1)
+        .unwrap_or(rest.len())
 }
 
 // Whether the piece ends in the suffix and is longer.

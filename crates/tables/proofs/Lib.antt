@@ -1,5 +1,4 @@
 pub mod Compared
-pub mod Laid
 pub mod Tested
 pub mod Listed
 pub mod Facts

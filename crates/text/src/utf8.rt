@@ -18,23 +18,43 @@ pub enum State {
     Misfit,
 }
 
-// What a character owes whose first byte is b.
+// What a character owes whose first byte is b. Comparisons from below: a match on the rows of RFC 3629 makes the check of a sheet a tenth
+// slower.
 #[tactic(auto, unfolding(crate::specs::Utf8::opened, crate::specs::Utf8::utf8_char, crate::specs::Utf8::within))]
 pub fn open(b: u8) -> State
     ensures { owed_of result ≡ opened utf8_char b }
 {
-    match b {
-        0x00..=0x7F => State::Nothing,
-        0xC2..=0xDF => State::One,
-        0xE0 => State::TwoFromA0,
-        0xE1..=0xEC => State::Two,
-        0xED => State::TwoTo9F,
-        0xEE..=0xEF => State::Two,
-        0xF0 => State::ThreeFrom90,
-        0xF1..=0xF3 => State::Three,
-        0xF4 => State::ThreeTo8F,
-        _ => State::Misfit,
+    if b < 0x80 {
+        return State::Nothing;
     }
+    if b < 0xC2 {
+        return State::Misfit;
+    }
+    if b < 0xE0 {
+        return State::One;
+    }
+    if b == 0xE0 {
+        return State::TwoFromA0;
+    }
+    if b < 0xED {
+        return State::Two;
+    }
+    if b == 0xED {
+        return State::TwoTo9F;
+    }
+    if b < 0xF0 {
+        return State::Two;
+    }
+    if b == 0xF0 {
+        return State::ThreeFrom90;
+    }
+    if b < 0xF4 {
+        return State::Three;
+    }
+    if b == 0xF4 {
+        return State::ThreeTo8F;
+    }
+    State::Misfit
 }
 
 // `then` where b lies from low to high.

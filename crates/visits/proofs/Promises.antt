@@ -9,7 +9,6 @@ use Rattle.refusals.specs.declared.Refusal.{Refusal}
 use Rattle.sheet.specs.Lines.{sheet_check}
 use Rattle.sheet.specs.Inputs.{by_sheet}
 use Rattle.sheet.specs.declared.check.SheetFault.{SheetFault}
-use Rattle.sheet.specs.declared.check.SheetFault.TheVariants as sheets
 use Rattle.writing.specs.Refused.{refused_text}
 use Rattle.visits.specs.Printed.{said_or, lines_of, unended, last_line, printed}
 use Rattle.visits.proofs.Stretches.{joined, stretch_text, stretches_print}

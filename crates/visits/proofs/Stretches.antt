@@ -18,7 +18,6 @@ use Rattle.text.specs.declared.word.WordFault.{WordFault}
 use Rattle.text.specs.declared.word.WordFault.TheVariants as words
 use Rattle.refusals.specs.Refusals.{numbers_of}
 use Rattle.refusals.specs.declared.Refusal.TheVariants.{WordTooLong}
-use Rattle.refusals.specs.declared.Refusal.{Refusal}
 use Rattle.sheet.specs.Inputs.{of_word}
 use Rattle.sheet.specs.Lines.{sheet_check}
 use Rattle.analysis.specs.Answers.{visits_given}

@@ -67,7 +67,8 @@ impl<'o> Writer<'o> {
     }
 }
 
-// What has a text, and puts it.
+// What has a text, and puts it. Not `std::fmt::Display`: that tells the text only where it answers Ok, and nothing says that it does; here
+// a text is measured or put without fail. Texts are bytes, as a word's are.
 pub trait Printed {
     ghost text: { Self → List ℕ };
 

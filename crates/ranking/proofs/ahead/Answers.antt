@@ -1,40 +1,19 @@
 -- `ranking::ahead` meets its contract, key by key. Assumes nothing.
-use borrow.Author.Tests.{lt-ltb, le-ltb}
-use Rattle.ranking.specs.Rank.{ahead_of}
+use Rattle.std.proofs.Common.{ap, ap₂, ◌∙◌, rules}
+use Rattle.std.specs.declared.cmp.Ordering.{Ordering}
+use Rattle.std.specs.Ordering.{is_lt, ordering_then}
+use Rattle.runs.specs.Runs.{cmp}
+use Rattle.ranking.specs.Rank.{root_text}
+use Rattle.ranking.proofs.Ranked.{with_is, ahead_is}
 use Rattle.ranking.proofs.ahead.Goals as goal
 
-pub returns-then-b-a : goal.returns-then-b-a
-unfolding ahead_of
-returns-then-b-a c = simp (lt-ltb _ _ c.if-b-a.true)
-
-pub returns-then-a-b : goal.returns-then-a-b
-unfolding ahead_of
-returns-then-a-b c = simp (le-ltb _ _ c.if-b-a.false, lt-ltb _ _ c.if-a-b.true)
-
-pub returns-then-b-a-2 : goal.returns-then-b-a-2
-unfolding ahead_of
-returns-then-b-a-2 c = simp (le-ltb _ _ c.if-b-a.false, le-ltb _ _ c.if-a-b.false, lt-ltb _ _ c.if-b-a-2.true)
-
-pub returns-then-a-b-2 : goal.returns-then-a-b-2
-unfolding ahead_of
-returns-then-a-b-2 c = simp (le-ltb _ _ c.if-b-a.false, le-ltb _ _ c.if-a-b.false, le-ltb _ _ c.if-b-a-2.false, lt-ltb _ _ c.if-a-b-2.true)
-
-pub returns-then-b-a-3 : goal.returns-then-b-a-3
-unfolding ahead_of
-returns-then-b-a-3 c = simp (le-ltb _ _ c.if-b-a.false, le-ltb _ _ c.if-a-b.false, le-ltb _ _ c.if-b-a-2.false, le-ltb _ _ c.if-a-b-2.false, lt-ltb _ _ c.if-b-a-3.true)
-
-pub returns-then-a-b-3 : goal.returns-then-a-b-3
-unfolding ahead_of
-returns-then-a-b-3 c = simp (le-ltb _ _ c.if-b-a.false, le-ltb _ _ c.if-a-b.false, le-ltb _ _ c.if-b-a-2.false, le-ltb _ _ c.if-a-b-2.false, le-ltb _ _ c.if-b-a-3.false, lt-ltb _ _ c.if-a-b-3.true)
-
-pub returns-then-b-a-4 : goal.returns-then-b-a-4
-unfolding ahead_of
-returns-then-b-a-4 c = simp (le-ltb _ _ c.if-b-a.false, le-ltb _ _ c.if-a-b.false, le-ltb _ _ c.if-b-a-2.false, le-ltb _ _ c.if-a-b-2.false, le-ltb _ _ c.if-b-a-3.false, le-ltb _ _ c.if-a-b-3.false, lt-ltb _ _ c.if-b-a-4.true)
-
-pub returns-then-a-b-4 : goal.returns-then-a-b-4
-unfolding ahead_of
-returns-then-a-b-4 c = simp (le-ltb _ _ c.if-b-a.false, le-ltb _ _ c.if-a-b.false, le-ltb _ _ c.if-b-a-2.false, le-ltb _ _ c.if-a-b-2.false, le-ltb _ _ c.if-b-a-3.false, le-ltb _ _ c.if-a-b-3.false, le-ltb _ _ c.if-b-a-4.false, lt-ltb _ _ c.if-a-b-4.true)
-
 pub returns : goal.returns
-unfolding ahead_of
-returns c = simp (le-ltb _ _ c.if-b-a.false, le-ltb _ _ c.if-a-b.false, le-ltb _ _ c.if-b-a-2.false, le-ltb _ _ c.if-a-b-2.false, le-ltb _ _ c.if-b-a-3.false, le-ltb _ _ c.if-a-b-3.false, le-ltb _ _ c.if-b-a-4.false, le-ltb _ _ c.if-a-b-4.false) c.root_less.ensures
+returns c =
+    let a = c.args in
+    let w = a.word.now in
+    let q = ap₂ ordering_then (c.then.ensures ∙ ap₂ ordering_then c.cmp.ensures c.cmp-2.ensures) c.cmp-3.ensures in
+    let t = ap₂ ordering_then (c.then-2.ensures ∙ q) c.cmp-4.ensures in
+    let r = with_is c.then-3.result c.then_with.result (cmp (root_text w a.a) (root_text w a.b)) c.then_with.ensures (λ e. search rules) in
+    c.is_lt.ensures
+    ∙ ap is_lt (r ∙ ap (λ (o : Ordering). ordering_then o (cmp (root_text w a.a) (root_text w a.b))) (c.then-3.ensures ∙ t))
+    ∙ ahead_is w a.a a.b

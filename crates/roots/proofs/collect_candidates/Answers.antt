@@ -17,15 +17,13 @@ overflow_cast-asked c =
     let h : length c.args.word.now ≤ 192 = c.requires in
     omega arith
 
-pub with_word-list-requires : goal.with_word-list-requires
-with_word-list-requires c =
+pub with_word-requires : goal.with_word-requires
+with_word-requires c =
     let ask = replies c.args.sheet.now in
     let w = c.args.word.now in
-    let p : c.decomposed-parts.result ≡ decomposed_of ask w = c.decomposed-parts.ensures in
-    (rw p (few-prefixes ask w), rw p (few-suffixes ask w), omega (arith, c.nothing.ensures.1))
+    let p : c.decomposed.result ≡ decomposed_of ask w = c.decomposed.ensures in
+    (rw p (few-prefixes ask w), rw p (few-suffixes ask w))
 
 pub returns : goal.returns
-returns c = (
-  collected_is (replies c.args.sheet.now) c.args.word.now _ _ _ _ c.nothing.ensures.0 c.decomposed-parts.ensures c.with_word-list.ensures.0 c.with_prefix.ensures.0,
-  c.with_prefix.ensures.1,
-)
+returns c =
+    collected_is (replies c.args.sheet.now) c.args.word.now _ _ _ _ c.new-list.ensures c.decomposed.ensures c.with_word.ensures c.with_prefix.ensures

@@ -13,7 +13,7 @@ returns-in-Err c =
     let w = c.args.word.now in
     let s = c.args.sheet.now in
     let e = c.refused.ensures in
-    refused w s _ _ _ _ (word-refused w s c.in-Err.fault (sym c.check_word.ensures ∙ c.in-Err.is)) (e.0 ∙ ap Err c.from.ensures) e.1 e.2 e.3
+    refused w s _ _ _ (word-refused w s c.in-Err.fault (sym c.check_word.ensures ∙ c.in-Err.is)) (e.0 ∙ ap Err c.from.ensures) e.1
 
 pub returns-in-Err-with_lexicon : goal.returns-in-Err-with_lexicon
 returns-in-Err-with_lexicon c =
@@ -21,7 +21,7 @@ returns-in-Err-with_lexicon c =
     let s = c.args.sheet.now in
     let e = c.refused-in-Err-with_lexicon.ensures in
     let ok : word_check w ≡ Ok tt = search rules in
-    refused w s _ _ _ _ (sheet-refused w s c.in-Err-with_lexicon.fault ok c.in-Err-with_lexicon.ensures) (e.0 ∙ ap Err c.from-in-Err-with_lexicon.ensures) e.1 e.2 e.3
+    refused w s _ _ _ (sheet-refused w s c.in-Err-with_lexicon.fault ok c.in-Err-with_lexicon.ensures) (e.0 ∙ ap Err c.from-in-Err-with_lexicon.ensures) e.1
 
 pub returns-in-Ok : goal.returns-in-Ok
 returns-in-Ok c =
@@ -31,6 +31,6 @@ returns-in-Ok c =
     let ok : word_check w ≡ Ok tt = search rules in
     let a = c.in-Ok.analysis in
     let h = e.given in
-    let m : Listed w e.lexicon.now.bytes.now a.said a.list a.visits = search rules in
+    let m : Listed w e.lexicon.now.bytes.now a.list a.visits = search rules in
     let l = rw e.of_sheet at m in
-    listed w s _ _ _ (accepted-both w s ok e.accepted) l.0 l.1 l.2 l.3
+    listed w s _ _ (accepted-both w s ok e.accepted) l.0 l.1

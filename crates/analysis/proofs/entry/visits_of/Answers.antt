@@ -1,35 +1,33 @@
--- `analysis::entry::visits_of` meets its contract, answer by answer. Assumes nothing.
-use Rattle.std.specs.Prelude.{Err, Ok, Result}
+-- `analysis::entry::visits_of` meets its contract: the refusal of the word, else that of the sheet, else the number by the accepted sheet.
+-- Assumes nothing.
+use Rattle.std.proofs.Common.{rules, ◌≡◌, ℕ}
+use Rattle.std.specs.Prelude.{Ok, Result}
+use mathlib.Core.Path.{sym, ap, ◌∙◌}
 use Rattle.refusals.specs.declared.Refusal.{Refusal}
-use Prim.Native.Nat.{ℕ}
-use mathlib.Core.Path.{◌≡◌, sym, ap, ap₂, ◌∙◌}
-use mathlib.Core.Bool.{Bool}
-use mathlib.Core.List.{List}
-use borrow.Author.Tests.{eq-eqb, ne_eqb}
-use Rattle.runs.specs.Runs.{pick}
-use Rattle.analysis.specs.Answers.{said_of, visits_given, visits_answer}
-use Rattle.analysis.proofs.Promises.{visits_said, visits-said}
+use Rattle.sheet.proofs.Refusals.{word-handed, sheet-handed, accepted-both}
+use Rattle.sheet.specs.Replies.{reply}
+use Rattle.paths.specs.Visits.{visits_of}
+use Rattle.analysis.specs.Answers.{visits_answer}
+use Rattle.analysis.proofs.Answered.{visits_refused, visits_counted}
 use Rattle.analysis.proofs.entry.visits_of.Goals as goal
 
--- the answer, by what is said
-said-by : (w s : List ℕ) (said x : Result (Unit {0}) Refusal) (n : ℕ) → said ≡ said_of w s → n ≡ visits_given w s → said ≡ x → visits_said x n ≡ visits_answer w s
-said-by w s said x n p q e = ap₂ visits_said (sym e ∙ p) q ∙ visits-said w s
+pub returns-in_err-check_word : goal.returns-in_err-check_word
+returns-in_err-check_word c =
+    let w = c.args.word.now in
+    let s = c.args.sheet.now in
+    word-handed w s (λ (r : Result ℕ Refusal). r ≡ visits_answer w s) (visits_refused w s) _ _ c.from_residual.ensures c.in_err-check_word.ensures
 
-pub returns-then-number-eq7 : goal.returns-then-number-eq7
-returns-then-number-eq7 c =
-    let a = c.analyze_affixes-analysis in
-    let e = eq-eqb _ _ (sym c.number.ensures ∙ c.if-number-eq7.true) in
-    ap (λ (x : Bool). pick x (Ok a.result.visits) (Err c.in-Err.refusal)) (sym e)
-    ∙ said-by c.args.word.now c.args.sheet.now _ _ _ a.ensures.0 a.ensures.3 c.in-Err.is
+pub returns-in_err-with_lexicon : goal.returns-in_err-with_lexicon
+returns-in_err-with_lexicon c =
+    let w = c.args.word.now in
+    let s = c.args.sheet.now in
+    sheet-handed w s (λ (r : Result ℕ Refusal). r ≡ visits_answer w s) (visits_refused w s) _ _ c.from_residual-in_err-with_lexicon.ensures c.in_ok-check_word.ensures
+    c.in_err-with_lexicon.ensures
 
-pub returns-in-Ok : goal.returns-in-Ok
-returns-in-Ok c =
-    let a = c.analyze_affixes-analysis in
-    said-by c.args.word.now c.args.sheet.now _ _ _ a.ensures.0 a.ensures.3 c.in-Ok.is
-
-pub returns-else-number-eq7 : goal.returns-else-number-eq7
-returns-else-number-eq7 c =
-    let a = c.analyze_affixes-analysis in
-    let e = ne_eqb _ _ (λ q. c.if-number-eq7.false (c.number.ensures ∙ q)) in
-    ap (λ (x : Bool). pick x (Ok a.result.visits) (Err c.in-Err.refusal)) (sym e)
-    ∙ said-by c.args.word.now c.args.sheet.now _ _ _ a.ensures.0 a.ensures.3 c.in-Err.is
+pub returns : goal.returns
+returns c =
+    let w = c.args.word.now in
+    let e = c.in_ok-with_lexicon.ensures in
+    let h = e.given in
+    let m : c.in_ok-with_lexicon.field-0 ≡ visits_of (reply e.lexicon.now.bytes.now) w = search rules in
+    ap Ok (rw e.of_sheet at m) ∙ visits_counted w c.args.sheet.now (accepted-both w c.args.sheet.now (sym c.in_ok-check_word.ensures) e.accepted)

@@ -1,14 +1,10 @@
--- `origins::classify_rows` meets its contract: the rows stored so far are the buffer's, each with what is decided of its root. Assumes
--- nothing.
-use Prim.Native.Nat.{◌≤◌}
+-- `origins::classify_rows` meets its contract: the list holds the rows so far, each with what is decided of its root. Assumes nothing.
 use mathlib.Core.Path.{◌≡◌}
 use mathlib.Core.List.{map}
-use lib.ListN.{length, take}
+use lib.ListN.{take}
 use Rattle.sheet.specs.Replies.{reply}
-use Rattle.ranking.specs.Kept.{rows_in, kept_bytes}
 use Rattle.paths.specs.Readings.{classified}
 use Rattle.analysis.proofs.origins.classify_rows.Given as goal
 
-abbrev pub invariant-loop-i : goal.invariant-loop-i
-invariant-loop-i l = (l.i ≤ l.n) × (l.n ≤ 64) × (kept_bytes ≤ length l.out) × (length l.list.rows ≡ 64)
-    × (take l.i l.list.rows ≡ map (classified (reply l.sheet.bytes.now) l.word) (take l.i (rows_in l.out)))
+abbrev pub invariant-loop-reading : goal.invariant-loop-reading
+invariant-loop-reading l = l.list.items ≡ map (classified (reply l.sheet.bytes.now) l.word) (take l.reading-index l.rows)

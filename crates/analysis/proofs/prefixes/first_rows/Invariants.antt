@@ -1,13 +1,12 @@
 -- `analysis::prefixes::first_rows` meets its contract: what all rows add is what those to come add to what has been collected. Assumes nothing.
-use Prim.Native.Nat.{ℕ, ◌+◌, ◌-◌, ◌≤◌}
+use Prim.Native.Nat.{ℕ, ◌-◌, ◌≤◌}
 use mathlib.Core.Path.{◌≡◌}
 use mathlib.Core.List.{List}
-use lib.ListN.{length, take}
+use lib.ListN.{take}
 use Rattle.paths.specs.Visits.{prefix_visits}
 use Rattle.analysis.proofs.Visited.{Counted}
 use Rattle.sheet.specs.Replies.{reply}
-use Rattle.ranking.specs.Lists.{list_limit, plus_all}
-use Rattle.ranking.specs.Kept.{kept_of}
+use Rattle.ranking.specs.Lists.{plus_all}
 use Rattle.ranking.specs.declared.Reading.{Reading}
 use Rattle.paths.specs.declared.Chain.{Chain}
 use Rattle.paths.specs.Walk.{second_walk, over_forms}
@@ -19,7 +18,7 @@ abbrev pub each : List ℕ → List ℕ → ℕ → Chain → ℕ → ℕ → Li
 each word sheet stem chain surface = second_walk (reply sheet) surface chain (take stem word)
 
 abbrev pub invariant-loop-k : goal.invariant-loop-k
-invariant-loop-k l = (l.k ≤ all_forms) × (l.f ≤ list_limit + 1) × (length l.out ≡ length l.initial.out)
-    × (plus_all l.word (kept_of l.initial.out l.initial.f) (over_forms (each l.word l.sheet.bytes.now l.at.end l.at.chain l.surface) (take l.at.end l.word) 0 all_forms)
-    ≡ plus_all l.word (kept_of l.out l.f) (over_forms (each l.word l.sheet.bytes.now l.at.end l.at.chain l.surface) (take l.at.end l.word) l.k (all_forms - l.k)))
-    × Counted (prefix_visits 1 (reply l.sheet.bytes.now)) (take l.at.end l.word) l.k l.v
+invariant-loop-k l = (l.k ≤ all_forms)
+    × (plus_all l.asked.word.now l.initial.kept (over_forms (each l.asked.word.now l.asked.sheet.now.bytes.now l.at.end l.at.chain l.asked.surface) (take l.at.end l.asked.word.now) 0 all_forms)
+    ≡ plus_all l.asked.word.now l.kept (over_forms (each l.asked.word.now l.asked.sheet.now.bytes.now l.at.end l.at.chain l.asked.surface) (take l.at.end l.asked.word.now) l.k (all_forms - l.k)))
+    × Counted (prefix_visits 1 (reply l.asked.sheet.now.bytes.now)) (take l.at.end l.asked.word.now) l.k l.v

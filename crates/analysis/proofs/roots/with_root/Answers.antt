@@ -7,30 +7,32 @@ use Rattle.analysis.specs.Places.{between}
 use Rattle.analysis.specs.Supports.{supports, score_from}
 use Rattle.analysis.specs.declared.support.Support.{Support}
 use Rattle.analysis.proofs.Supported.{supports_is, score_is}
+use Rattle.analysis.proofs.Accepted.{few_characters}
 use Rattle.analysis.proofs.Added.{no-root, one-root}
 use Rattle.analysis.proofs.roots.with_root.Goals as goal
 use Rattle.analysis.proofs.roots.with_root.Goals.{After-is_supported}
 
 -- whether the root is supported
 tested : (c : After-is_supported) → let a = c.args in
-    c.is_supported.result ≡ is_supported (reply a.sheet.now.bytes.now) (between a.word.now a.root a.at.end)
+    c.is_supported.result ≡ is_supported (reply a.asked.now.sheet.now.bytes.now) (between a.asked.now.word.now a.root a.at.end)
 tested c =
     let a = c.args in
     c.is_supported.ensures
-    ∙ ap (λ (x : Support). supports x (length (between a.word.now a.root a.at.end))) c.support_of-s.ensures
-    ∙ supports_is (reply a.sheet.now.bytes.now) (between a.word.now a.root a.at.end)
+    ∙ ap (λ (x : Support). supports x (length (between a.asked.now.word.now a.root a.at.end))) c.support_of-s.ensures
+    ∙ supports_is (reply a.asked.now.sheet.now.bytes.now) (between a.asked.now.word.now a.root a.at.end)
+
+pub score-requires : goal.score-requires
+score-requires c = (few_characters c.args.asked.now, c.requires.2, c.requires.3)
 
 pub returns-then-not-is_supported : goal.returns-then-not-is_supported
 returns-then-not-is_supported c =
     let a = c.args in
-    (no-root (reply a.sheet.now.bytes.now) a.surface a.at.chain a.word.now a.at.end a.root a.prefixes _ (sym (tested (goal.at.returns-then-not-is_supported c).After-is_supported) ∙ c.if-not-is_supported.true), c.requires.7.1)
+    no-root (reply a.asked.now.sheet.now.bytes.now) a.asked.now.surface a.at.chain a.asked.now.word.now a.at.end a.root a.prefixes _ (sym (tested (goal.at.returns-then-not-is_supported c).After-is_supported) ∙ c.if-not-is_supported.true)
 
 pub returns : goal.returns
 returns c =
     let a = c.args in
-    let q = c.score.ensures ∙ ap (λ (x : Support). score_from a.surface x a.prefixes.count a.at.chain.count) c.support_of-s.ensures
-    ∙ score_is (reply a.sheet.now.bytes.now) (between a.word.now a.root a.at.end) a.surface a.prefixes.count a.at.chain.count in (
-      c.store.ensures.0
-          ∙ one-root (reply a.sheet.now.bytes.now) a.surface a.at.chain a.word.now a.at.end a.root a.prefixes _ c.score.result (sym (tested (goal.at.returns c).After-is_supported) ∙ c.if-not-is_supported.false) q,
-      c.store.ensures.1,
-    )
+    let q = c.score.ensures ∙ ap (λ (x : Support). score_from a.asked.now.surface x a.prefixes.count a.at.chain.count) c.support_of-s.ensures
+    ∙ score_is (reply a.asked.now.sheet.now.bytes.now) (between a.asked.now.word.now a.root a.at.end) a.asked.now.surface a.prefixes.count a.at.chain.count in
+    c.add.ensures
+    ∙ one-root (reply a.asked.now.sheet.now.bytes.now) a.asked.now.surface a.at.chain a.asked.now.word.now a.at.end a.root a.prefixes _ c.score.result (sym (tested (goal.at.returns c).After-is_supported) ∙ c.if-not-is_supported.false) q

@@ -1,9 +1,8 @@
 -- `suffixes::visit` and `below`, which call each other: twice the strips left falls, and one more for a piece, which calls its rows.
 -- The loop: what the rows passed add to the list, and what they count.
-use Rattle.std.proofs.Common.{◌-◌, ◌≡◌, ◌+◌, ◌*◌, ◌≤◌, length, take}
+use Rattle.std.proofs.Common.{◌-◌, ◌≡◌, ◌+◌, ◌*◌, ◌≤◌, take}
 use Rattle.sheet.specs.Replies.{reply}
-use Rattle.ranking.specs.Lists.{list_limit, plus_all}
-use Rattle.ranking.specs.Kept.{kept_of}
+use Rattle.ranking.specs.Lists.{plus_all}
 use Rattle.paths.specs.Walk.{rows_walk, piece_walk}
 use Rattle.paths.specs.Weighed.{total_rows, row_weighed, weighed}
 use Rattle.analysis.proofs.suffixes.+below_visit.Given as goal
@@ -16,8 +15,8 @@ decreases-visit l = 2 * (4 - l.at.chain.count) + 1
 
 abbrev pub invariant-visit-loop-k : goal.invariant-visit-loop-k
 invariant-visit-loop-k l =
-    (l.k ≤ l.rows) × (l.f ≤ list_limit + 1) × (length l.out ≡ length l.initial.out)
-    × (plus_all l.word (kept_of l.initial.out l.initial.f) (rows_walk (piece_walk (3 - l.at.chain.count) (reply l.sheet.bytes.now) l.surface) (reply l.sheet.bytes.now) l.at.chain (take l.at.end l.word) 0 l.rows)
-    ≡ plus_all l.word (kept_of l.out l.f) (rows_walk (piece_walk (3 - l.at.chain.count) (reply l.sheet.bytes.now) l.surface) (reply l.sheet.bytes.now) l.at.chain (take l.at.end l.word) l.k (l.rows - l.k)))
-    × (weighed (4 - l.at.chain.count) (reply l.sheet.bytes.now) l.rows l.at.times (take l.at.end l.word)
-    ≡ l.v + total_rows (row_weighed (weighed (3 - l.at.chain.count) (reply l.sheet.bytes.now)) l.at.times (take l.at.end l.word)) l.k (l.rows - l.k))
+    (l.k ≤ l.at.rows)
+    × (plus_all l.asked.word.now l.initial.kept (rows_walk (piece_walk (3 - l.at.chain.count) (reply l.asked.sheet.now.bytes.now) l.asked.surface) (reply l.asked.sheet.now.bytes.now) l.at.chain (take l.at.end l.asked.word.now) 0 l.at.rows)
+    ≡ plus_all l.asked.word.now l.kept (rows_walk (piece_walk (3 - l.at.chain.count) (reply l.asked.sheet.now.bytes.now) l.asked.surface) (reply l.asked.sheet.now.bytes.now) l.at.chain (take l.at.end l.asked.word.now) l.k (l.at.rows - l.k)))
+    × (weighed (4 - l.at.chain.count) (reply l.asked.sheet.now.bytes.now) l.at.rows l.at.times (take l.at.end l.asked.word.now)
+    ≡ l.v + total_rows (row_weighed (weighed (3 - l.at.chain.count) (reply l.asked.sheet.now.bytes.now)) l.at.times (take l.at.end l.asked.word.now)) l.k (l.at.rows - l.k))

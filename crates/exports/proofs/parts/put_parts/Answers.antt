@@ -1,6 +1,13 @@
--- `parts::put_parts` meets its contract. Assumes nothing.
-use Rattle.std.proofs.Common.{ℕ, List, ◌++◌, drop, ap}
+-- `parts::put_parts` meets its contract: nine bytes, and the 24 places behind them. Assumes nothing.
+use mathlib.Core.Path.{◌≡◌, ap}
+use mathlib.Core.List.{List, ◌++◌}
+use Prim.Native.Nat.{ℕ}
+use lib.ListN.{length, drop}
+use Rattle.exports.proofs.Put.{parts-stored}
 use Rattle.exports.proofs.parts.put_parts.Goals as goal
 
 pub returns : goal.returns
-returns c = ap (λ (l : List ℕ). l ++ drop 33 c.args.out.now) c.copy_from_slice.ensures.after
+returns c =
+    let a = c.args in
+    let l : length a.p.suffixes ≡ 24 = c.well_formed.0.1.1.1.1.1.1.1.0.1.0.1 in
+    parts-stored a.p a.a a.b a.c a.d a.out.now _ _ l (ap (λ (x : List ℕ). x ++ drop 9 a.out.now) c.copy_from_slice.ensures.after) c.copy_from_slice-2.ensures.after

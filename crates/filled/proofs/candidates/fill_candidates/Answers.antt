@@ -1,7 +1,7 @@
 -- `fill_candidates` meets its contract: why there is no list, or its rows fill the slice. Assumes nothing.
 use Rattle.std.proofs.lemmas.Result.{err_from_is_err_and}
-use mathlib.Core.Path.{sym, ap, ◌∙◌}
-use Rattle.roots.specs.Answers.{said_of, listed_of}
+use mathlib.Core.Path.{sym, ◌∙◌}
+use Rattle.roots.proofs.Refused.{roots-refused, roots-listed}
 use Rattle.filled.proofs.Outcomes.{roots_refused, roots_wrote}
 use Rattle.filled.proofs.candidates.fill_candidates.Goals as goal
 
@@ -9,11 +9,10 @@ pub returns-in_err-list : goal.returns-in_err-list
 returns-in_err-list c =
     let a = c.args in
     let p = err_from_is_err_and c.from_residual.result c.from_residual.ensures.1 in
-    rw (p.1, p.2) (roots_refused a.word.now a.sheet.now a.out.now _ (sym c.lookup_root_candidates.ensures.said ∙ ap said_of c.in_err-list.was))
+    rw (p.1, p.2) (roots_refused a.word.now a.sheet.now a.out.now _ (roots-refused a.word.now a.sheet.now _ (sym c.lookup_root_candidates.ensures ∙ c.in_err-list.was)))
 
 pub returns : goal.returns
 returns c =
     let a = c.args in
-    let e = c.lookup_root_candidates.ensures in
-    roots_wrote a.word.now a.sheet.now a.out.now _ _ _ (sym e.said ∙ ap said_of c.in_ok-list.was) (ap listed_of (sym c.in_ok-list.was) ∙ e.listed)
-    c.fill.ensures.0 c.fill.ensures.1
+    let e = roots-listed a.word.now a.sheet.now c.in_ok-list.list (sym c.lookup_root_candidates.ensures ∙ c.in_ok-list.was) in
+    roots_wrote a.word.now a.sheet.now a.out.now _ _ _ e.0 (c.as_slice.ensures.value ∙ e.1) c.fill.ensures.0 c.fill.ensures.1

@@ -34,16 +34,16 @@ decides c =
     let a = c.args in
     by_reply a.sheet.now.bytes.now a.linked.now a.stem.now _ c.link_of-link.ensures.reads c.if-stem-eq0.false (whole (up-Else-ends_with _ _ _ c.before.before))
 
-pub returns-then-link : goal.returns-then-link
-returns-then-link c =
+pub returns-then-is_some : goal.returns-then-is_some
+returns-then-is_some c =
     let a = c.args in
     let s = a.sheet.now.bytes.now in
     subst (λ (m : Lemma). LemmaAt s m c.linked_verb-named.result)
-    (linked_found s a.linked.now a.stem.now c.link_of-link.result c.if-link.true ∙ sym (decides (goal.at.returns-then-link c).After-link_of-link)) c.linked_verb-named.ensures
+    (linked_found s a.linked.now a.stem.now c.link_of-link.result (sym c.is_some.ensures ∙ c.if-is_some.true) ∙ sym (decides (goal.at.returns-then-is_some c).After-link_of-link)) c.linked_verb-named.ensures
 
 pub returns : goal.returns
 returns c =
     let a = c.args in
     let s = a.sheet.now.bytes.now in
     subst (λ (m : Lemma). LemmaAt s m c.regular_lemma.result)
-    (linked_next s a.linked.now a.stem.now c.link_of-link.result c.if-link.false ∙ sym (decides (goal.at.returns c).After-link_of-link)) c.regular_lemma.ensures
+    (linked_next s a.linked.now a.stem.now c.link_of-link.result (sym c.is_some.ensures ∙ c.if-is_some.false) ∙ sym (decides (goal.at.returns c).After-link_of-link)) c.regular_lemma.ensures

@@ -4,5 +4,5 @@ use Rattle.ranking.proofs.rows.get_reading.Goals as goal
 
 pub returns : goal.returns
 returns c =
-    reading_parts c.args.row.now c.two_at-stem.ensures c.two_at-root.ensures c.two_at-score.ensures
-    c.segment_at-first.ensures c.segment_at-second.ensures c.segment_at-third.ensures c.segment_at-fourth.ensures
+    reading_parts c.args.row.now c.two_at.ensures c.two_at-2.ensures c.two_at-3.ensures
+    c.segment_at.ensures c.segment_at-2.ensures c.segment_at-3.ensures c.segment_at-4.ensures

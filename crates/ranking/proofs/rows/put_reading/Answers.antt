@@ -1,5 +1,6 @@
 -- `ranking::rows::put_reading` meets its contract: the bytes are those of the row. Assumes nothing.
 use Prim.Native.Nat.{ℕ}
+use native.Mathlib.Omega.{arith}
 use mathlib.Core.Path.{ap, ◌∙◌}
 use mathlib.Core.List.{List, ◌++◌}
 use lib.ListN.{drop, get_or}
@@ -12,6 +13,6 @@ returns c =
     let s = c.args in
     let t = s.r.segments in
     ap (λ (l : List ℕ). l ++ drop reading_width s.out.now)
-    (c.copy_from_slice.ensures.after ∙ reading-bytes s.r c.low.ensures c.high.ensures c.low-2.ensures c.high-2.ensures c.low-3.ensures c.high-3.ensures
+    (c.copy_from_slice.ensures.after ∙ reading-bytes s.r (omega arith, omega arith, omega arith) c.to_le_bytes-stem.ensures c.to_le_bytes-root.ensures c.to_le_bytes-score.ensures
     (segment-bytes (get_or t 0 no_segment) c.kind_number.ensures c.mark_number.ensures) (segment-bytes (get_or t 1 no_segment) c.kind_number-2.ensures c.mark_number-2.ensures)
     (segment-bytes (get_or t 2 no_segment) c.kind_number-3.ensures c.mark_number-3.ensures) (segment-bytes (get_or t 3 no_segment) c.kind_number-4.ensures c.mark_number-4.ensures))

@@ -2,5 +2,5 @@
 use Rattle.referred.proofs.Kept.{Kept}
 use Rattle.referred.proofs.faults.find_in.Given as goal
 
-abbrev pub invariant-loop-i : goal.invariant-loop-i
-invariant-loop-i l = Kept l.sheet.bytes.now l.sheet.starts.now l.initial.out l.out l.n l.i
+abbrev pub invariant-loop-start : goal.invariant-loop-start
+invariant-loop-start l = Kept l.sheet.bytes.now l.sheet.starts.now l.initial.out l.out l.n l.start-index

@@ -7,5 +7,5 @@ use Rattle.tables.specs.Tables.{affixes}
 use Rattle.referred.specs.Report.{is_text}
 use Rattle.referred.proofs.faults.names_any.Given as goal
 
-abbrev pub invariant-loop-k : goal.invariant-loop-k
-invariant-loop-k l = is_text (key (line_at l.sheet l.at)) affixes ≡ is_text (key (line_at l.sheet l.at)) (drop l.k affixes)
+abbrev pub invariant-loop-text : goal.invariant-loop-text
+invariant-loop-text l = is_text (key (line_at l.sheet l.at)) affixes ≡ is_text (key (line_at l.sheet l.at)) (drop l.text-index affixes)

@@ -6,4 +6,4 @@ use Rattle.referred.proofs.Refers.{named-told}
 use Rattle.referred.proofs.faults.names_text.Goals as goal
 
 pub returns : goal.returns
-returns c = c.is_eq.ensures ∙ named-told (key (line_at c.args.sheet.now c.args.at)) _ _ _ c.affix.ensures c.line_order.ensures
+returns c = c.is_eq.ensures ∙ named-told (key (line_at c.args.sheet.now c.args.at)) c.args.text.now _ c.line_order.ensures

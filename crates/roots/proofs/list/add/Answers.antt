@@ -1,20 +1,32 @@
 -- `list::add` meets its contract: held already, no room, or in its place. Assumes nothing.
-use native.Mathlib.Omega.{arith}
-use Rattle.std.proofs.Common.{rules}
-use mathlib.Core.Path.{◌≡◌, sym, ◌∙◌}
-use lib.ListN.{length}
+use Rattle.std.proofs.Common.{◌≡◌, sym, ap, ◌∙◌, ◌≤◌, ◌<◌, length, arith, rules, tests}
+use Rattle.std.specs.List.{position_or_len}
+use Rattle.ranking.proofs.Puts.{place_fits}
+use Rattle.roots.specs.Rank.{ahead_of}
+use Rattle.roots.specs.Lists.{holds_in}
 use Rattle.roots.proofs.Kept.{once-held, once_full, once-room}
 use Rattle.roots.proofs.list.add.Goals as goal
 
 pub returns-then-holds : goal.returns-then-holds
-returns-then-holds c = (once-held c.args.word.now c.args.list c.args.r (sym c.if-holds.true ∙ c.holds.ensures), c.requires)
+returns-then-holds c =
+    let a = c.args in
+    once-held a.word.now a.list.now.items a.r (sym c.if-holds.true ∙ c.holds.ensures ∙ ap (holds_in a.word.now a.r.parts) c.as_slice.ensures.value)
 
-pub returns-then-list-ge16 : goal.returns-then-list-ge16
-returns-then-list-ge16 c = (once_full c.args.word.now c.args.list c.args.r (sym c.if-holds.false ∙ c.holds.ensures) (search rules) c.if-list-ge16.true, c.requires)
+pub returns-then-is_full : goal.returns-then-is_full
+returns-then-is_full c =
+    let a = c.args in
+    let e : length a.list.now.items ≡ 16 = search (rules, tests) in
+    once_full a.word.now a.list.now.items a.r (sym c.if-holds.false ∙ c.holds.ensures ∙ ap (holds_in a.word.now a.r.parts) c.as_slice.ensures.value) e
+
+pub insert-requires : goal.insert-requires
+insert-requires c =
+    let a = c.args in
+    let f : position_or_len (ahead_of a.word.now a.r) c.as_slice-2.result.now ≤ length a.list.now.items = rw c.as_slice-2.ensures.value (place_fits (ahead_of a.word.now a.r) a.list.now.items) in
+    (omega arith, (omega (arith, c.place-at.ensures), search (rules, tests)))
 
 pub returns : goal.returns
 returns c =
-    let l : length c.args.list.rows ≡ 16 = search rules in (
-      once-room c.args.word.now c.args.list c.args.r (sym c.if-holds.false ∙ c.holds.ensures) l c.insert_at.result c.place-at.result c.if-list-ge16.false c.place-at.ensures.0 c.insert_at.ensures.0,
-      omega (arith, c.insert_at.ensures.1, c.if-list-ge16.false),
-    )
+    let a = c.args in
+    let h : length a.list.now.items < 16 = search (rules, tests) in
+    once-room a.word.now a.list.now.items a.r (sym c.if-holds.false ∙ c.holds.ensures ∙ ap (holds_in a.word.now a.r.parts) c.as_slice.ensures.value)
+    c.place-at.result c.insert.new.self.items h (c.place-at.ensures ∙ ap (position_or_len (ahead_of a.word.now a.r)) c.as_slice-2.ensures.value) c.insert.ensures.items

@@ -8,6 +8,3 @@ use Rattle.sheet.proofs.keys.along.Given as goal
 
 abbrev pub invariant-loop-i : goal.invariant-loop-i
 invariant-loop-i l = (l.i ≤ length l.p) × (headed (spaced l.t) l.p ≡ headed (spaced (drop l.i l.t)) (drop l.i l.p))
-
-abbrev pub decreases-loop-i : goal.decreases-loop-i
-decreases-loop-i l = length l.p - l.i

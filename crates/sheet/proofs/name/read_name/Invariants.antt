@@ -1,5 +1,5 @@
 -- `sheet::name::read_name` meets its contract: what is read of the name's bytes, and those to come, are all of them. Assumes nothing.
-use Prim.Native.Nat.{◌+◌, ◌-◌, ◌≤◌}
+use Prim.Native.Nat.{◌+◌, ◌≤◌}
 use mathlib.Core.Path.{◌≡◌}
 use mathlib.Core.List.{[]}
 use lib.ListN.{length, drop}
@@ -14,6 +14,3 @@ invariant-loop-i l = (l.from ≤ l.i)
     × (l.i ≤ length l.s)
     × (l.i + name_run (drop l.i l.s) ≡ l.from + name_run (drop l.from l.s))
     × (run (owes []) (front (drop l.from l.s)) ≡ run (owed_of l.state) (front (drop l.i l.s)))
-
-abbrev pub decreases-loop-i : goal.decreases-loop-i
-decreases-loop-i l = length l.s - l.i

@@ -1,39 +1,15 @@
--- `strips::suffix::first_char_len` meets its contract. The loop's invariant: the first character has the bytes passed and those that
--- go on from here. The measure is what is left of the text. Assumes nothing.
-use mathlib.Core.Path.{sym, ◌∙◌}
-use native.Mathlib.Omega.{arith}
-use Rattle.strips.proofs.Returns.{first-none, first-begins, goes_stop, goes_next, goes_end}
+-- `strips::suffix::first_char_len` meets its contract: `position` finds the next byte that begins a character. Assumes nothing.
+use Rattle.std.proofs.Common.{rules, tests, ◌≡◌, ◌∷◌}
+use Rattle.std.proofs.lemmas.Iterator.{YieldsList-from_slice}
+use Rattle.std.proofs.lemmas.Iterator.Search.{position_from_yields_List}
+use lib.Dec.{eqb}
+use Rattle.text.specs.Characters.{opens}
+use Rattle.strips.proofs.Returns.{first_found}
 use Rattle.strips.proofs.suffix.first_char_len.Goals as goal
-
-pub returns-then-t-eq0 : goal.returns-then-t-eq0
-returns-then-t-eq0 c = (first-none c.args.t.now c.if-t-eq0.true, omega arith)
-
-pub loop-i-init : goal.loop-i-init
-loop-i-init c = (omega arith, omega arith, first-begins c.args.t.now c.if-t-eq0.false)
-
-pub bounds-t-i : goal.bounds-t-i
-bounds-t-i c = omega arith
-
-pub returns-then-opens_one-eq1 : goal.returns-then-opens_one-eq1
-returns-then-opens_one-eq1 c =
-    let t = c.args.t.now in
-    let g = goes_stop t c.loop-i.i (omega arith) (sym c.opens_one.ensures.0 ∙ c.if-opens_one-eq1.true) in
-    (omega (arith, c.loop-i.invariant.2, g), omega arith)
-
-pub overflow_add-i : goal.overflow_add-i
-overflow_add-i c = omega arith
-
-pub loop-i-smaller : goal.loop-i-smaller
-loop-i-smaller c = omega arith
-
-pub loop-i-preserved : goal.loop-i-preserved
-loop-i-preserved c =
-    let t = c.args.t.now in
-    let g = goes_next t c.loop-i.i (omega arith) (λ e. c.if-opens_one-eq1.false (c.opens_one.ensures.0 ∙ e)) in
-    (omega arith, omega arith, omega (arith, c.loop-i.invariant.2, g))
 
 pub returns : goal.returns
 returns c =
-    let t = c.args.t.now in
-    let g = goes_end t c.loop-i.i (omega arith) in
-    (omega (arith, c.loop-i.invariant.2, g), omega arith)
+    let rest = c.in-Some.rest.now in
+    let found = position_from_yields_List (λ x. eqb (opens x) 1) _ _ c.position.result c.position.ensures.ran (YieldsList-from_slice rest c.iter.ensures.rest) (λ x b q k. search (rules, tests)) in
+    let e : c.args.t.now ≡ c.in-Some.field-0-0.now ∷ rest = search rules in
+    first_found c.args.t.now rest _ c.unwrap_or.result c.position.result e found c.unwrap_or.ensures

@@ -14,5 +14,5 @@ returns-in-Err c =
 pub returns-in-Ok : goal.returns-in-Ok
 unfolding visit_line
 returns-in-Ok c =
-    let e = line_told c.args.sheet.now.bytes.now c.args.word.now (sym c.check_word.ensures ∙ c.in-Ok.is) c.args.sheet.now.indexed.accepted _ c.analyze_affixes_in-analysis.ensures.3 in
+    let e = line_told c.args.sheet.now.bytes.now c.args.word.now (sym c.check_word.ensures ∙ c.in-Ok.is) c.args.sheet.now.indexed.accepted _ c.analyze_affixes_in-analysis.ensures.1 in
     grind (arith, common_steps)

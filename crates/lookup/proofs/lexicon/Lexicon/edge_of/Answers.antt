@@ -1,92 +1,24 @@
--- `begins::edge_of` meets its contract: all lines before number lo stand below, the line of number hi does not, and that of number top
--- stands above. Assumes nothing.
-use mathlib.Core.Path.{◌≡◌, sym, ap, ◌∙◌}
-use Prim.Native.Nat.{ℕ, ◌+◌, ◌-◌, ◌/◌}
-use native.Mathlib.Omega.{arith}
-use lib.ListN.{drop}
-use Rattle.std.specs.declared.cmp.Ordering.{Ordering}
-use Rattle.std.specs.declared.cmp.Ordering.TheVariants.{Less, Equal, Greater}
-use Rattle.sheet.specs.Forms.{is_form, key, key_of}
-use Rattle.sheet.specs.Lines.{line_at}
-use Rattle.sheet.specs.Keys.{headed}
-use Rattle.lookup.specs.Begins.{headed_at}
+-- `begins::edge_of` meets its contract: a search that stops at a line that begins so, and one for the first before it. Assumes nothing.
+use Rattle.std.proofs.Common.{rules, arith}
 use Rattle.lookup.proofs.Settled.{indexed-form}
+use Rattle.lookup.proofs.Edges.{stopped_at, edged_none, edged_some}
 use Rattle.lookup.proofs.lexicon.Lexicon.edge_of.Goals as goal
-use Rattle.lookup.proofs.lexicon.Lexicon.edge_of.Goals.{After-head_order-o}
 
-abbrev middle : After-head_order-o → ℕ
-middle c = let l = c.loop-lo in l.lo + (l.hi - l.lo) / 2
+pub halved-seen-requires-clause-callable : goal.halved-seen-requires-clause-callable
+halved-seen-requires-clause-callable c = λ i a b _ _ _ _ _ _ _ _ _. indexed-form _ _ i c.args.self.now.indexed b
 
--- what was found of the line in the middle
-seen : (c : After-head_order-o) (o : Ordering) → c.head_order-o.result ≡ o →
-    let a = c.args in headed_at a.self.now.bytes.now a.self.now.starts.now a.letter a.head.now (middle c) ≡ o
-seen c o e =
+pub halved-before-requires-clause-callable : goal.halved-before-requires-clause-callable
+halved-before-requires-clause-callable c = λ i a b _ _ _ _ _ _ _ _ _.
+    let h = c.halved-seen.ensures in
+    let w = stopped_at _ _ _ _ _ _ h c.in-Some.is in
+    indexed-form _ _ i c.args.self.now.indexed (omega (arith, b, w.1, h.inside))
+
+pub returns-in_default : goal.returns-in_default
+returns-in_default c =
     let a = c.args in
-    ap (λ (x : ℕ). headed (key (line_at a.self.now.bytes.now x)) (key_of a.letter a.head.now)) (sym c.wide-at.ensures) ∙ sym c.head_order-o.ensures ∙ e
-
-after_middle : (c : After-head_order-o) (o : Ordering) → c.head_order-o.result ≡ o →
-    let a = c.args in headed_at a.self.now.bytes.now a.self.now.starts.now a.letter a.head.now (middle c + 1 - 1) ≡ o
-after_middle c o e =
-    let a = c.args in
-    let m : middle c + 1 - 1 ≡ middle c = omega arith in
-    ap (headed_at a.self.now.bytes.now a.self.now.starts.now a.letter a.head.now) m ∙ seen c o e
-
-pub loop-lo-init : goal.loop-lo-init
-loop-lo-init c = (omega arith, omega arith, omega arith, (λ h. absurd (omega arith)), (λ h. absurd (omega arith)), λ h. absurd (omega arith))
-
-pub overflow_sub-mid : goal.overflow_sub-mid
-overflow_sub-mid c = omega arith
-
-pub overflow_add-mid : goal.overflow_add-mid
-overflow_add-mid c = omega arith
-
-pub offset_bounds-self-mid : goal.offset_bounds-self-mid
-offset_bounds-self-mid c = omega (arith, c.well_formed)
-
-pub bounds-self-mid : goal.bounds-self-mid
-bounds-self-mid c = omega arith
-
-pub head_order-o-requires : goal.head_order-o-requires
-head_order-o-requires c =
-    ap (λ (x : ℕ). is_form (drop x c.args.self.now.bytes.now)) c.wide-at.ensures
-    ∙ indexed-form c.args.self.now.bytes.now c.args.self.now.starts.now (c.loop-lo.lo + (c.loop-lo.hi - c.loop-lo.lo) / 2) c.args.self.now.indexed (omega (arith, c.loop-lo-test.true, c.loop-lo.invariant.1, c.loop-lo.invariant.2))
-
-pub overflow_add-lo : goal.overflow_add-lo
-overflow_add-lo c = omega arith
-
-pub loop-lo-smaller-in-Less : goal.loop-lo-smaller-in-Less
-loop-lo-smaller-in-Less c = omega arith
-
-pub loop-lo-preserved-in-Less : goal.loop-lo-preserved-in-Less
-loop-lo-preserved-in-Less c =
-    let v = c.loop-lo.invariant in
-    (omega arith, v.1, v.2, (λ p. after_middle (goal.at.loop-lo-preserved-in-Less c).After-head_order-o Less c.in-Less.is), v.4, v.5)
-
-pub loop-lo-smaller-in-Equal : goal.loop-lo-smaller-in-Equal
-loop-lo-smaller-in-Equal c = omega arith
-
-pub loop-lo-preserved-in-Equal : goal.loop-lo-preserved-in-Equal
-loop-lo-preserved-in-Equal c =
-    let v = c.loop-lo.invariant in
-    (omega arith, omega (arith, v.1), v.2, v.3, (λ p f. let q : Less ≡ Equal = sym f ∙ seen (goal.at.loop-lo-preserved-in-Equal c).After-head_order-o Equal c.in-Equal.is in let z : ◌≡◌ {A = ℕ} 0 1 = cc in absurd (omega arith)), v.5)
-
-pub loop-lo-smaller : goal.loop-lo-smaller
-loop-lo-smaller c = omega arith
-
-pub loop-lo-preserved : goal.loop-lo-preserved
-loop-lo-preserved c =
-    let v = c.loop-lo.invariant in
-    (omega arith, omega arith, omega (arith, v.1, v.2), v.3, (λ p f. let q : Less ≡ Greater = sym f ∙ seen (goal.at.loop-lo-preserved c).After-head_order-o Greater c.in-Greater.is in let z : ◌≡◌ {A = ℕ} 0 1 = cc in absurd (omega arith)), λ p. seen (goal.at.loop-lo-preserved c).After-head_order-o Greater c.in-Greater.is)
+    edged_none a.self.now.bytes.now a.self.now.starts.now a.letter a.head.now _ _ c.halved-seen.ensures (λ i o _ s. search rules) c.in_default.is
 
 pub returns : goal.returns
 returns c =
     let a = c.args in
-    let v = c.loop-lo.invariant in
-    let m : c.loop-lo.hi ≡ c.loop-lo.lo = omega (arith, v.0, c.loop-lo-test.false) in
-    record {
-      ordered = omega (arith, v.0, v.1);
-      inside = v.2;
-      below = v.3;
-      first = λ h f. v.4 (omega arith) (ap (headed_at a.self.now.bytes.now a.self.now.starts.now a.letter a.head.now) m ∙ f);
-      above = v.5;
-    }
+    edged_some a.self.now.bytes.now a.self.now.starts.now a.letter a.head.now _ _ c.halved-seen.ensures (λ i o _ s. search rules) _ c.in-Some.is _ _ c.halved-before.ensures (λ i o _ s. search rules)

@@ -10,29 +10,29 @@ use Rattle.sheet.proofs.Forms.{line-fits}
 use Rattle.lookup.specs.Search.{Sought}
 use Rattle.lookup.proofs.Parts.{name_of, name-spot}
 use Rattle.lookup.proofs.lexicon.Lexicon.spot_of.Goals as goal
-use Rattle.lookup.proofs.lexicon.Lexicon.spot_of.Goals.{In-Some}
+use Rattle.lookup.proofs.lexicon.Lexicon.spot_of.Goals.{In_ok-at}
 
 -- the line found
-line : (c : In-Some) →
+line : (c : In_ok-at) →
     let a = c.args in
-    Sought a.self.now.bytes.now 0x77 (a.p.now ++ a.q.now) (Some c.in-Some.at)
-line c = rw c.in-Some.is at c.seek-search.ensures.0
+    Sought a.self.now.bytes.now 0x77 (a.p.now ++ a.q.now) (Some c.in_ok-at.at)
+line c = rw c.in_ok-at.was at c.seek-search.ensures.0
 
-room : (c : In-Some) →
+room : (c : In_ok-at) →
     let a = c.args in
-    value_end a.self.now.bytes.now c.in-Some.at + 3 ≤ length a.self.now.bytes.now
+    value_end a.self.now.bytes.now c.in_ok-at.at + 3 ≤ length a.self.now.bytes.now
 room c =
     let a = c.args in
-    line-fits a.self.now.bytes.now c.in-Some.at (line c).placed.form
+    line-fits a.self.now.bytes.now c.in_ok-at.at (line c).placed.form
 
-pub returns-in_default : goal.returns-in_default
-returns-in_default c = name_of _ _ _ _ _ (rw c.in_default.is at c.seek-search.ensures.0) refl (omega arith)
+pub returns-in_err-at : goal.returns-in_err-at
+returns-in_err-at c = rw c.from_residual.ensures (name_of _ _ _ _ _ (rw c.in_err-at.was at c.seek-search.ensures.0) refl tt)
 
 pub overflow_add-from : goal.overflow_add-from
-overflow_add-from c = omega (arith, room (goal.at.overflow_add-from c).In-Some)
+overflow_add-from c = omega (arith, room (goal.at.overflow_add-from c).In_ok-at)
 
 pub name_end-end-requires : goal.name_end-end-requires
-name_end-end-requires c = (line (goal.at.name_end-end-requires c).In-Some).placed.form
+name_end-end-requires c = (line (goal.at.name_end-end-requires c).In_ok-at).placed.form
 
 pub overflow_sub-len : goal.overflow_sub-len
 overflow_sub-len c = omega (arith, c.name_end-end.ensures)
@@ -41,4 +41,4 @@ pub returns : goal.returns
 returns c =
     let a = c.args in
     let e = c.name_end-end.ensures in
-    name_of a.self.now.bytes.now 0x77 (a.p.now ++ a.q.now) _ _ (line (goal.at.returns c).In-Some) (name-spot a.self.now.bytes.now c.in-Some.at _ e) (omega (arith, room (goal.at.returns c).In-Some, e))
+    name_of a.self.now.bytes.now 0x77 (a.p.now ++ a.q.now) _ _ (line (goal.at.returns c).In_ok-at) (name-spot a.self.now.bytes.now c.in_ok-at.at _ e) (omega (arith, room (goal.at.returns c).In_ok-at, e))

@@ -1,0 +1,33 @@
+-- `search::halved` meets its contract: the lines that are left stand as the contract says. Assumes nothing.
+use Rattle.std.proofs.Common.{rules, arith}
+use Rattle.lookup.proofs.Halving.{as_said, left_all, left_here, left_up, left_down}
+use Rattle.lookup.proofs.lexicon.Lexicon.halved.Goals as goal
+
+pub loop-lo-init : goal.loop-lo-init
+loop-lo-init g c = left_all _ _ _ _ 0 0 0 c.requires.bounds.0
+
+pub overflow_add-rounds : goal.overflow_add-rounds
+overflow_add-rounds g c = omega (arith, c.loop-lo.invariant.fewer)
+
+pub offset_bounds-self-mid : goal.offset_bounds-self-mid
+offset_bounds-self-mid g c = omega (arith, c.well_formed, c.loop-lo.invariant.inside, c.requires.bounds.1)
+
+pub bounds-self-mid : goal.bounds-self-mid
+bounds-self-mid g c = omega (arith, c.loop-lo.invariant.inside, c.requires.bounds.1)
+
+pub order-requires : goal.order-requires
+order-requires g c = search (rules, c.requires.callable)
+
+pub loop-lo-preserved-in-Less : goal.loop-lo-preserved-in-Less
+loop-lo-preserved-in-Less g c = left_up _ _ _ _ _ _ _ c.loop-lo.invariant c.loop-lo-test.true (as_said (goal.F-post g c.args.order) _ _ _ _ c.from.ensures c.in-Less.is c.order.ensures)
+
+pub returns-in-Equal : goal.returns-in-Equal
+returns-in-Equal g c = left_here _ _ _ _ _ _ _ c.loop-lo.invariant c.loop-lo-test.true (as_said (goal.F-post g c.args.order) _ _ _ _ c.from.ensures c.in-Equal.is c.order.ensures)
+
+pub loop-lo-preserved : goal.loop-lo-preserved
+loop-lo-preserved g c = left_down _ _ _ _ _ _ _ c.loop-lo.invariant c.loop-lo-test.true (as_said (goal.F-post g c.args.order) _ _ _ _ c.from.ensures c.in-Greater.is c.order.ensures)
+
+pub returns : goal.returns
+returns g c =
+    let l = c.loop-lo.invariant in
+    record { ahead = l.ahead; inside = l.inside; below = l.below; above = l.above; stopped = omega (arith, l.ordered, c.loop-lo-test.false); counted = λ k h. (l.counted k h).0 }

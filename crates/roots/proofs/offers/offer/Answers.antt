@@ -1,0 +1,29 @@
+-- `offers::offer` meets its contract: the letters of the root decide. Assumes nothing.
+use mathlib.Core.Path.{◌≡◌, sym, ◌∙◌}
+use native.Mathlib.Omega.{arith}
+use Prim.Native.Nat.{◌≤◌}
+use lib.ListN.{length}
+use Rattle.text.specs.Characters.{chars}
+use Rattle.roots.proofs.Bounded.{chars_most}
+use Rattle.roots.proofs.Offered.{candidate_is, offer_unknown, offer_known}
+use Rattle.roots.proofs.offers.offer.Goals as goal
+
+pub returns-then-not-is_known : goal.returns-then-not-is_known
+returns-then-not-is_known c =
+    offer_unknown c.args.asked.now.sheet.now.bytes.now c.args.asked.now.word.now c.args.p c.letters_of-letters.result c.root_of-root.result.now c.letters_of-letters.ensures c.root_of-root.ensures 16 _ (sym c.is_known.ensures ∙ c.if-not-is_known.true)
+
+pub returns : goal.returns
+returns c =
+    offer_known c.args.asked.now.sheet.now.bytes.now c.args.asked.now.word.now c.args.p c.letters_of-letters.result c.root_of-root.result.now c.letters_of-letters.ensures c.root_of-root.ensures 16 _ _ _
+    (sym c.is_known.ensures ∙ c.if-not-is_known.false)
+    (candidate_is c.args.asked.now.sheet.now.bytes.now c.args.asked.now.word.now c.args.p c.letters_of-letters.result c.root_of-root.result.now c.letters_of-letters.ensures c.root_of-root.ensures
+    c.score.result c.args.asked.now.surface c.decide_origin-decision.result c.score.ensures c.args.asked.now.counted c.decide_origin-decision.ensures)
+    c.add.ensures
+
+pub score-requires : goal.score-requires
+score-requires c =
+    let a = c.args.asked.now in
+    let n : a.surface ≡ chars a.word.now = a.counted in
+    let m = chars_most a.word.now in
+    let h : length a.word.now ≤ 192 = a.short in
+    (omega arith, c.requires.0, c.requires.1)
