@@ -104,7 +104,7 @@ fn rows_by(word: &[u8], sheet: &[u8], starts: &mut [Start], out: &mut [u8]) -> u
 // The word's readings in rank order, 28 bytes each, at the front of the buffer, and their number. Where nothing is stored, and `out` is
 // as it was: the refusal, 8 for a buffer with less than 28 bytes for each. 1,792 bytes are always enough.
 //
-// The rows are stored straight from what the walk has kept: to hand out the list by value costs a short word a tenth more.
+// The list is made behind the check of the sheet and stored at once: to hand it out through every call costs a short word a tenth more.
 #[unsafe(no_mangle)]
 pub extern "C" fn yunthirel_readings(word: &[u8], sheet: &[u8], out: &mut [u8]) -> u64
     ensures { (result ≡ (readings_filled word.now sheet.now out.old).code)
