@@ -12,7 +12,9 @@ use Rattle.runs.specs.Bytes.{index_of, index_after}
 use Rattle.runs.specs.Runs.{cmp}
 use Rattle.std.specs.declared.cmp.Ordering.{Ordering}
 use Rattle.std.specs.declared.cmp.Ordering.TheVariants.{Less, Equal, Greater}
-use Rattle.runs.proofs.Ordered.{step, step_less, step_greater, step_same, step_then, by_head, and_then}
+use Rattle.std.specs.Ordering.{nat_cmp, MatchOrdering}
+use Rattle.std.specs.Cmp.{nat_cmp_is}
+use Rattle.runs.proofs.Ordered.{Stand, stand, step, step_less, step_greater, step_same, step_then, by_head, and_then}
 use Rattle.sheet.specs.Forms.{is_form, key, key_of}
 use Rattle.sheet.specs.Lines.{line_at}
 use Rattle.sheet.specs.Keys.{spaced, headed}
@@ -98,26 +100,28 @@ pub name-leaves : (t q m : List ℕ) (x : Ordering) → x ≡ headed (spaced t) 
 name-leaves t q m x e f g =
     ap (λ (y : List ℕ). cmp y []) (sym g) ∙ first-leaves t q [] (sym e ∙ f) ∙ ap (λ (y : List ℕ). cmp (spaced t) y) (append-nil q)
 
+-- by the first numbers, and where they are the same by what `then_with` is given
+with_step : {P : Type 0} (x y : ℕ) (o r rest : Ordering) → o ≡ nat_cmp x y → MatchOrdering o (r ≡ Less) P (r ≡ Greater) → (P → r ≡ rest) → r ≡ step x y rest
+with_step x y o r rest e m f = go (stand x y)
+  where
+    go : Stand x y → r ≡ step x y rest
+    go (Stand.below h) = let k : o ≡ Less = e ∙ sym (nat_cmp_is x y Less h) in (rw k at m) ∙ sym (step_less x y rest h)
+    go (Stand.above h) = let k : o ≡ Greater = e ∙ sym (nat_cmp_is x y Greater h) in (rw k at m) ∙ sym (step_greater x y rest h)
+    go (Stand.alike h) = let k : o ≡ Equal = e ∙ sym (nat_cmp_is x y Equal h) in f (rw k at m) ∙ sym (step_same x y rest h)
+
 -- a form's line stands to a question by its letter first, then by its name
 module _ (s : List ℕ) (at : ℕ) (h : is_form (drop at s) ≡ true) (letter : ℕ) (n : List ℕ) where
-  pub line_less : get_or s (at + 1) 0 < letter → cmp (key (line_at s at)) (key_of letter n) ≡ Less
-  line_less l = let k : (line_at s at).letter < letter = rw (line-letter s at h) l in step_less _ _ _ k
-
-  pub line_greater : letter < get_or s (at + 1) 0 → cmp (key (line_at s at)) (key_of letter n) ≡ Greater
-  line_greater l = let k : letter < (line_at s at).letter = rw (line-letter s at h) l in step_greater _ _ _ k
-
   pub line_same : (line_at s at).letter ≡ letter → cmp (key (line_at s at)) (key_of letter n) ≡ cmp (spaced (drop (at + 3) s)) n
   line_same e = step_same _ _ _ e ∙ ap (λ (m : List ℕ). cmp m n) (sym (name-at s at h))
 
+  pub line_by : {P : Type 0} (o r : Ordering) → o ≡ nat_cmp (line_at s at).letter letter → MatchOrdering o (r ≡ Less) P (r ≡ Greater)
+      → (P → r ≡ cmp (spaced (drop (at + 3) s)) n) → r ≡ cmp (key (line_at s at)) (key_of letter n)
+  line_by o r e m f = with_step (line_at s at).letter letter o r (cmp (line_at s at).name n) e m (λ p. f p ∙ ap (λ (m : List ℕ). cmp m n) (name-at s at h))
+
   -- the same to all lines of the letter whose names begin with n
-  pub head_line_less : get_or s (at + 1) 0 < letter → headed (key (line_at s at)) (key_of letter n) ≡ Less
-  head_line_less l = let k : (line_at s at).letter < letter = rw (line-letter s at h) l in step_less _ _ _ k
-
-  pub head_line_greater : letter < get_or s (at + 1) 0 → headed (key (line_at s at)) (key_of letter n) ≡ Greater
-  head_line_greater l = let k : letter < (line_at s at).letter = rw (line-letter s at h) l in step_greater _ _ _ k
-
-  pub head_line_same : (line_at s at).letter ≡ letter → headed (key (line_at s at)) (key_of letter n) ≡ headed (spaced (drop (at + 3) s)) n
-  head_line_same e = step_same _ _ _ e ∙ ap (λ (m : List ℕ). headed m n) (sym (name-at s at h))
+  pub head_by : {P : Type 0} (o r : Ordering) → o ≡ nat_cmp (line_at s at).letter letter → MatchOrdering o (r ≡ Less) P (r ≡ Greater)
+      → (P → r ≡ headed (spaced (drop (at + 3) s)) n) → r ≡ headed (key (line_at s at)) (key_of letter n)
+  head_by o r e m f = with_step (line_at s at).letter letter o r (headed (line_at s at).name n) e m (λ p. f p ∙ ap (λ (m : List ℕ). headed m n) (name-at s at h))
 
   -- a line that is one of these has the letter, and its name begins so
   pub head_line_equal : headed (key (line_at s at)) (key_of letter n) ≡ Equal → ((line_at s at).letter ≡ letter) × (headed (spaced (drop (at + 3) s)) n ≡ Equal)

@@ -1,18 +1,16 @@
 // How a line of the sheet stands to a question, or to another line: by the first letter, then by the name. A question's name is in two
 // parts, compared with the sheet's bytes where they stand: nothing is copied and nothing is joined. The check of a sheet and every search
 // compare by these functions alone.
-ghost use Rattle.std.specs.Prelude.{◌≡◌, true, ◌++◌, drop};
+ghost use Rattle.std.specs.Prelude.{◌≡◌, ◌++◌};
 ghost use Rattle.runs.specs.Runs.{cmp};
 ghost use Rattle.std.specs.declared.cmp.Ordering.TheVariants.{Equal};
-ghost use Rattle.sheet.specs.Forms.{is_form, key, key_of};
-ghost use Rattle.sheet.specs.Lines.{line_at};
 ghost use Rattle.sheet.specs.Keys.{spaced, headed};
 
 use std::cmp::Ordering;
 
 // How the name at the front of `t`, up to its space, stands to all names that begin with `p`: equal if it is one of them.
 // It takes any two runs.
-fn along(t: &[u8], p: &[u8]) -> Ordering
+pub(crate) fn along(t: &[u8], p: &[u8]) -> Ordering
     ensures { result ≡ headed (spaced t.now) p.now }
 {
     for i in 0..p.len() {
@@ -59,7 +57,7 @@ fn name_order(t: &[u8], q: &[u8]) -> Ordering
 
 // The order of the name at the front of `t`, up to its space, and the name that `p` and then `q` make, where the name is known to begin
 // with `p`: only what follows is compared.
-fn rest_order(t: &[u8], p: &[u8], q: &[u8]) -> Ordering
+pub(crate) fn rest_order(t: &[u8], p: &[u8], q: &[u8]) -> Ordering
     requires { headed (spaced t.now) p.now ≡ Equal }
     ensures { result ≡ cmp (spaced t.now) (p.now ++ q.now) }
 {
@@ -69,7 +67,7 @@ fn rest_order(t: &[u8], p: &[u8], q: &[u8]) -> Ordering
 
 // The order of the name at the front of `t`, up to its space, and the name that `p` and then `q` make.
 // It takes any three runs.
-fn parts_order(t: &[u8], p: &[u8], q: &[u8]) -> Ordering
+pub(crate) fn parts_order(t: &[u8], p: &[u8], q: &[u8]) -> Ordering
     ensures { result ≡ cmp (spaced t.now) (p.now ++ q.now) }
 {
     let o = along(t, p);
@@ -78,48 +76,4 @@ fn parts_order(t: &[u8], p: &[u8], q: &[u8]) -> Ordering
         Ordering::Greater => Ordering::Greater,
         Ordering::Equal => rest_order(t, p, q),
     }
-}
-
-// The order of the line that begins at `at` and the question (letter, the name that `p` and then `q` make).
-// A form stands there.
-pub fn line_order(sheet: &[u8], at: usize, letter: u8, p: &[u8], q: &[u8]) -> Ordering
-    requires { is_form (drop at sheet.now) ≡ true }
-    ensures { result ≡ cmp (key (line_at sheet.now at)) (key_of letter (p.now ++ q.now)) }
-{
-    let first = sheet[at + 1];
-    if first < letter {
-        return Ordering::Less;
-    }
-    if letter < first {
-        return Ordering::Greater;
-    }
-    let from = at + 3;
-    parts_order(&sheet[from..], p, q)
-}
-
-// How the line that begins at `at` stands to all lines of the letter whose names begin with `head`: equal if it is one of them.
-// A form stands there.
-pub fn head_order(sheet: &[u8], at: usize, letter: u8, head: &[u8]) -> Ordering
-    requires { is_form (drop at sheet.now) ≡ true }
-    ensures { result ≡ headed (key (line_at sheet.now at)) (key_of letter head.now) }
-{
-    let own = sheet[at + 1];
-    if own < letter {
-        return Ordering::Less;
-    }
-    if letter < own {
-        return Ordering::Greater;
-    }
-    let start = at + 3;
-    along(&sheet[start..], head)
-}
-
-// The order of the line that begins at `at` and the question, where the line is one of the letter whose name begins with `p`.
-// A form stands there.
-pub fn order_behind(sheet: &[u8], at: usize, letter: u8, p: &[u8], q: &[u8]) -> Ordering
-    requires { (is_form (drop at sheet.now) ≡ true) × (headed (key (line_at sheet.now at)) (key_of letter p.now) ≡ Equal) }
-    ensures { result ≡ cmp (key (line_at sheet.now at)) (key_of letter (p.now ++ q.now)) }
-{
-    let name = at + 3;
-    rest_order(&sheet[name..], p, q)
 }

@@ -2,7 +2,8 @@
 #![tactic(auto)]
 
 pub mod check;
-pub mod keys;
+pub mod form;
+mod keys;
 pub mod letters;
 pub mod limits;
 pub mod line;

@@ -1,13 +1,13 @@
 // The reader of the sheet: from line to line, its place going in and coming back.
-ghost use Rattle.std.specs.Prelude.{◌≡◌, true, false, ◌||◌, drop};
+ghost use Rattle.std.specs.Prelude.{◌≡◌, false, ◌||◌};
 ghost use Rattle.runs.specs.Runs.{ends_in};
 ghost use Rattle.text.specs.Names.{holds_forbidden};
-ghost use Rattle.sheet.specs.Forms.{sign_i, letter_i, syllable_nu, is_kind, is_meant, is_form};
-ghost use Rattle.sheet.specs.Steps.{head_of, name_end, value_end, step_at};
+ghost use Rattle.sheet.specs.Forms.{sign_i, letter_i, syllable_nu, is_kind, is_meant};
+ghost use Rattle.sheet.specs.Steps.{head_of, step_at};
 
 use crate::letters::are_letters;
 use crate::name::{is_name, read_name, run_end};
-use runs::{begins_with, ends_with, find, same};
+use runs::{begins_with, ends_with, same};
 
 // The first letter of the form whose head stands at the front of t, 0 where none does.
 fn head_at(t: &[u8]) -> u8
@@ -52,24 +52,6 @@ fn is_meant(letter: u8, name: &[u8], value: &[u8]) -> bool
         b'w' => are_letters(value),
         _ => false,
     }
-}
-
-// Where the first name of the line that begins at `at` ends. A form stands there.
-pub fn name_end(s: &[u8], at: usize) -> usize
-    requires { is_form (drop at s.now) ≡ true }
-    ensures { result ≡ name_end s.now at }
-{
-    let name = at + 3;
-    find(s, name, s.len(), b' ')
-}
-
-// Where its value ends; the name ends at `end`.
-pub fn value_end(s: &[u8], at: usize, end: usize) -> usize
-    requires { (is_form (drop at s.now) ≡ true) × (end ≡ name_end s.now at) }
-    ensures { result ≡ value_end s.now at }
-{
-    let value = end + 2;
-    find(s, value, s.len(), b')')
 }
 
 // A place in the sheet at which a line begins.

@@ -5,7 +5,7 @@ ghost use Rattle.runs.specs.Runs.{cmp, is_less};
 ghost use Rattle.sheet.specs.Forms.{key_of};
 ghost use Rattle.sheet.specs.Walks.{key_before, Standing, reached};
 
-use crate::keys::line_order;
+use crate::form::FormAt;
 use crate::line::{Cursor, Line};
 use std::cmp::Ordering;
 
@@ -39,7 +39,7 @@ fn is_above(s: &[u8], last: Option<usize>, letter: u8, name: &[u8]) -> bool
     let Some(at) = last else {
         return true;
     };
-    line_order(s, at, letter, name, b"").is_lt()
+    FormAt { sheet: s, at }.order(letter, name, b"").is_lt()
 }
 
 impl Walk {
