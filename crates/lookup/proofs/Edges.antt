@@ -23,13 +23,13 @@ use Rattle.lookup.proofs.Halves.{place_here, place_left}
 use Rattle.lookup.proofs.Rounds.{empty_place}
 
 -- what is said of the line of a number is how it stands
-abbrev pub Says : (ℕ → Ordering → Type 0) → List ℕ → (ℕ → Ordering) → Type 0
-Says stands starts f = (i : ℕ) (o : Ordering) → i < length starts → stands (get_or starts i 0) o → o ≡ f i
+abbrev pub Says : (ℕ → Ordering → Type 0) → ℕ → (ℕ → Ordering) → Type 0
+Says stands n f = (i : ℕ) (o : Ordering) → i < n → stands i o → o ≡ f i
 
 -- the line at which a search stopped is one of those left
-pub stopped_at : (stands : ℕ → Ordering → Type 0) (starts : List ℕ) (first end : ℕ) (r : Halved) (i : ℕ) → Halves stands starts first end r
-    → r.found ≡ Some i → (r.lo ≤ i) × (i < r.hi) × stands (get_or starts i 0) Equal
-stopped_at stands starts first end r i h e = subst (Stopped stands starts r.lo r.hi) e h.stopped
+pub stopped_at : (stands : ℕ → Ordering → Type 0) (first end : ℕ) (r : Halved) (i : ℕ) → Halves stands first end r
+    → r.found ≡ Some i → (r.lo ≤ i) × (i < r.hi) × stands i Equal
+stopped_at stands first end r i h e = subst (Stopped stands r.lo r.hi) e h.stopped
 
 -- where Equal goes one way no line stands so
 none_equal : (o : Ordering) → Equal ≡ ordering_then o Greater → ⊥
@@ -51,8 +51,8 @@ two_ways : {P : Type 0} (o p : Ordering) → o ≡ p → o ≡ Less → p ≡ Gr
 two_ways o p e f g = let q : Less ≡ Greater = sym f ∙ e ∙ g in let z : ◌≡◌ {A = ℕ} 0 1 = cc in absurd (omega arith)
 
 -- the edge of the lines that begin so: no such line was met, or the first is sought before one that was
-module _ (s starts : List ℕ) (letter : ℕ) (head : List ℕ) (stands : ℕ → Ordering → Type 0) (r : Halved) (h : Halves stands starts 0 (length starts) r)
-    (says : Says stands starts (headed_at s starts letter head)) where
+module _ (s starts : List ℕ) (letter : ℕ) (head : List ℕ) (stands : ℕ → Ordering → Type 0) (r : Halved) (h : Halves stands 0 (length starts) r)
+    (says : Says stands (length starts) (headed_at s starts letter head)) where
   at_top : r.hi < length starts → headed_at s starts letter head r.hi ≡ Greater
   at_top p = sym (says r.hi Greater p (h.above p))
 
@@ -61,7 +61,7 @@ module _ (s starts : List ℕ) (letter : ℕ) (head : List ℕ) (stands : ℕ �
 
   pub edged_none : r.found ≡ None → Edged s starts letter head (record { lo = r.hi; top = r.hi })
   edged_none e =
-      let z : r.lo ≡ r.hi = subst (Stopped stands starts r.lo r.hi) e h.stopped in
+      let z : r.lo ≡ r.hi = subst (Stopped stands r.lo r.hi) e h.stopped in
       record {
         ordered = omega arith;
         inside = h.inside;
@@ -70,15 +70,15 @@ module _ (s starts : List ℕ) (letter : ℕ) (head : List ℕ) (stands : ℕ �
         above = at_top;
       }
 
-  module _ (one : ℕ) (e : r.found ≡ Some one) (before : ℕ → Ordering → Type 0) (b : Halved) (k : Halves before starts r.lo one b)
-      (tells : Says before starts (λ i. ordering_then (headed_at s starts letter head i) Greater)) where
-    within : (r.lo ≤ one) × (one < r.hi) × stands (get_or starts one 0) Equal
-    within = stopped_at stands starts 0 (length starts) r one h e
+  module _ (one : ℕ) (e : r.found ≡ Some one) (before : ℕ → Ordering → Type 0) (b : Halved) (k : Halves before r.lo one b)
+      (tells : Says before (length starts) (λ i. ordering_then (headed_at s starts letter head i) Greater)) where
+    within : (r.lo ≤ one) × (one < r.hi) × stands one Equal
+    within = stopped_at stands 0 (length starts) r one h e
 
     met : b.lo ≡ b.hi
     met = by b.found k.stopped
       where
-        by : (f : Option ℕ) → Stopped before starts b.lo b.hi f → b.lo ≡ b.hi
+        by : (f : Option ℕ) → Stopped before b.lo b.hi f → b.lo ≡ b.hi
         by None z = z
         by (Some i) z = absurd (none_equal (headed_at s starts letter head i) (tells i Equal (omega (arith, z.1, k.inside, within.1, h.inside)) z.2))
 
@@ -87,7 +87,7 @@ module _ (s starts : List ℕ) (letter : ℕ) (head : List ℕ) (stands : ℕ �
       where
         by : Stand r.lo n → headed_at s starts letter head (n - 1) ≡ Less
         by (Stand.below l) =
-            is_less_then _ (tells (n - 1) Less (omega (arith, met, k.inside, within.1, h.inside)) (subst (λ (x : ℕ). before (get_or starts (x - 1) 0) Less) e (k.below (omega arith))))
+            is_less_then _ (tells (n - 1) Less (omega (arith, met, k.inside, within.1, h.inside)) (subst (λ (x : ℕ). before (x - 1) Less) e (k.below (omega arith))))
         by (Stand.above l) = absurd (omega (arith, k.ahead))
         by (Stand.alike l) = subst (λ (x : ℕ). headed_at s starts letter head (x - 1) ≡ Less) l (under (omega arith) (omega (arith, within.0, within.1, h.inside)))
 
@@ -111,14 +111,14 @@ module _ (s starts : List ℕ) (letter : ℕ) (head : List ℕ) (stands : ℕ �
     }
 
 -- the line of a question: all lines before number first stand below it, and those from number end on above
-module _ (s q starts : List ℕ) (up : GoesUp s [] starts) (first end : ℕ) (stands : ℕ → Ordering → Type 0) (r : Halved) (h : Halves stands starts first end r)
-    (says : (i : ℕ) (o : Ordering) → first ≤ i → i < end → stands (get_or starts i 0) o → o ≡ cmp (key (line_at s (get_or starts i 0))) q)
+module _ (s q starts : List ℕ) (up : GoesUp s [] starts) (first end : ℕ) (stands : ℕ → Ordering → Type 0) (r : Halved) (h : Halves stands first end r)
+    (says : (i : ℕ) (o : Ordering) → first ≤ i → i < end → stands i o → o ≡ cmp (key (line_at s (get_or starts i 0))) q)
     (l : end ≤ length starts) (below : 0 < first → cmp (key (line_at s (get_or starts (first - 1) 0))) q ≡ Less)
     (above : end < length starts → cmp (key (line_at s (get_or starts end 0))) q ≡ Greater) where
   pub placed : place_in s starts q ≡ option_map (λ i. get_or starts i 0) r.found
   placed = by r.found h.stopped
     where
-      by : (f : Option ℕ) → Stopped stands starts r.lo r.hi f → place_in s starts q ≡ option_map (λ i. get_or starts i 0) f
+      by : (f : Option ℕ) → Stopped stands r.lo r.hi f → place_in s starts q ≡ option_map (λ i. get_or starts i 0) f
       by (Some i) z = place_here s q [] starts i up (omega (arith, z.1, h.inside)) (sym (says i Equal (omega (arith, z.0, h.ahead)) (omega (arith, z.1, h.inside)) z.2))
       by None z =
           place_left s q starts up r.lo r.hi (omega arith) (omega (arith, h.inside)) (λ p. lower (stand first r.lo) p) (λ p. upper (stand r.hi end) p)

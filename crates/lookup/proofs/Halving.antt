@@ -1,10 +1,8 @@
--- One turn of a search by halves, whatever says how a line stands. The proof of `halved` cites it. Assumes nothing.
+-- One turn of a search by halves, whatever says how a number stands. The proof of `halve` cites it. Assumes nothing.
 use Rattle.std.specs.Prelude.{Some}
 use Prim.Native.Nat.{ℕ, zero, suc, ◌+◌, ◌-◌, ◌/◌, ◌≤◌, ◌<◌}
 use native.Mathlib.Omega.{arith}
 use mathlib.Core.Path.{◌≡◌, refl, ap}
-use mathlib.Core.List.{List}
-use lib.ListN.{get_or}
 use Rattle.std.specs.declared.cmp.Ordering.{Ordering}
 use Rattle.std.specs.declared.cmp.Ordering.TheVariants.{Less, Equal, Greater}
 use Rattle.lookup.specs.Search.{double}
@@ -22,12 +20,12 @@ halved_once n m k r z h c = go (k - r) refl c.1
         let g : double (k - (r + 1)) ≡ double j = ap double f in
         (omega arith, omega arith)
 
--- what was said of one is said of the same
-pub as_said : (stands : ℕ → Ordering → Type 0) (a b : ℕ) (o p : Ordering) → a ≡ b → o ≡ p → stands a o → stands b p
-as_said stands a b o p e f s = rw (← e, ← f) s
+-- what was said is said of the same
+pub as_said : (stands : ℕ → Ordering → Type 0) (i : ℕ) (o p : Ordering) → o ≡ p → stands i o → stands i p
+as_said stands i o p f s = rw (← f) s
 
-module _ (stands : ℕ → Ordering → Type 0) (starts : List ℕ) (first end lo hi rounds : ℕ) where
-  pub left_all : first ≤ end → Left stands starts first end first end 0
+module _ (stands : ℕ → Ordering → Type 0) (first end lo hi rounds : ℕ) where
+  pub left_all : first ≤ end → Left stands first end first end 0
   left_all h = record {
     ahead = omega arith;
     ordered = h;
@@ -38,13 +36,13 @@ module _ (stands : ℕ → Ordering → Type 0) (starts : List ℕ) (first end l
     fewer = omega arith;
   }
 
-  module _ (l : Left stands starts first end lo hi rounds) (t : lo < hi) where
+  module _ (l : Left stands first end lo hi rounds) (t : lo < hi) where
     -- the middle one of those left
     abbrev mid : ℕ
     mid = lo + (hi - lo) / 2
 
     -- the search stops at it
-    pub left_here : stands (get_or starts mid 0) Equal → Halves stands starts first end (record { lo = lo; hi = hi; found = Some mid; rounds = rounds + 1 })
+    pub left_here : stands mid Equal → Halves stands first end (record { lo = lo; hi = hi; found = Some mid; rounds = rounds + 1 })
     left_here s = record {
       ahead = l.ahead;
       inside = l.inside;
@@ -55,7 +53,7 @@ module _ (stands : ℕ → Ordering → Type 0) (starts : List ℕ) (first end l
     }
 
     -- those behind the middle one
-    pub left_up : stands (get_or starts mid 0) Less → Left stands starts first end (mid + 1) hi (rounds + 1)
+    pub left_up : stands mid Less → Left stands first end (mid + 1) hi (rounds + 1)
     left_up s = record {
       ahead = omega (arith, l.ahead);
       ordered = omega arith;
@@ -67,7 +65,7 @@ module _ (stands : ℕ → Ordering → Type 0) (starts : List ℕ) (first end l
     }
 
     -- those before it
-    pub left_down : stands (get_or starts mid 0) Greater → Left stands starts first end lo mid (rounds + 1)
+    pub left_down : stands mid Greater → Left stands first end lo mid (rounds + 1)
     left_down s = record {
       ahead = l.ahead;
       ordered = omega arith;

@@ -1,15 +1,18 @@
 -- What the answer of 13 rounds says of an indexed sheet: the place, the reply, the line that stands there.
 -- The proof of `seek` cites it. Assumes nothing.
-use Rattle.std.specs.Prelude.{None, Option, Some}
+use Rattle.std.specs.Prelude.{None, Option, Some, IfSome}
+use Rattle.std.specs.declared.cmp.Ordering.{Ordering}
 use mathlib.Core.Path.{◌≡◌, sym, ap, subst, ◌∙◌}
 use mathlib.Core.Bool.{true}
 use mathlib.Core.List.{List, []}
-use Prim.Native.Nat.{ℕ, ◌<◌}
+use Prim.Native.Nat.{ℕ, ◌<◌, ◌≤◌}
 use native.Mathlib.Omega.{arith}
 use lib.ListN.{length, drop, get_or}
 use Rattle.sheet.specs.Forms.{is_form, key_of}
 use Rattle.sheet.specs.Lines.{starts_of}
 use Rattle.sheet.specs.Replies.{reply, Indexed}
+use Rattle.lookup.specs.declared.search.Halved.{Halved}
+use Rattle.lookup.specs.Halved.{Stopped, Halves}
 use Rattle.sheet.specs.Limits.{enough_rounds}
 use Rattle.lookup.specs.Search.{double, asked, place_in, place_of, answer_at, Placed, Sought}
 use Rattle.sheet.proofs.Accepted.{GoesUp, accepted_up, up_form, up_member}
@@ -60,3 +63,11 @@ sought_placed s starts letter name r x e =
     subst (λ (p : List ℕ). place_in s p (key_of letter name) ≡ asked enough_rounds s p (key_of letter name)) (sym x.listed)
     (sym (enough s (key_of letter name) enough_rounds [] (starts_of s) (accepted_up s x.accepted) f)) in
     sought s starts letter name r x (e ∙ l)
+
+-- a search among lines stops at one
+pub stops_in : (stands : ℕ → Ordering → Type 0) (first end n : ℕ) (r : Halved) → Halves stands first end r → end ≤ n → IfSome r.found (λ i. i < n)
+stops_in stands first end n r h l = by r.found h.stopped
+  where
+    by : (f : Option ℕ) → Stopped stands r.lo r.hi f → IfSome f (λ i. i < n)
+    by None s = tt
+    by (Some i) s = omega (arith, s.1, h.inside)

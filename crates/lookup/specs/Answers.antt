@@ -1,10 +1,10 @@
 -- Parts of a sheet that a question's line holds, and the kind that a sheet gives a suffix. Assumes nothing.
 use Rattle.std.specs.Prelude.{ℕ, ◌+◌, ◌≤◌, ◌≡◌, true, List, [], ◌∷◌, length, take, drop, None, Option, Some}
 use Rattle.runs.specs.Runs.{pick, same_text}
-use Rattle.sheet.specs.Forms.{is_form}
 use Rattle.sheet.specs.Lines.{line_at}
 use Rattle.sheet.specs.Steps.{name_end}
 use Rattle.sheet.specs.Replies.{Reply, unknown, told, reply}
+use Rattle.sheet.specs.declared.form.FormAt.{FormAt}
 use Rattle.lookup.specs.declared.answers.Spot.{Spot}
 use Rattle.lookup.specs.declared.answers.SheetKind.{SheetKind}
 use Rattle.lookup.specs.declared.answers.SheetKind.TheVariants.{Post, Comp}
@@ -30,10 +30,10 @@ abbrev pub name_spot : List ℕ → Option ℕ → Option Spot
 name_spot s None = None
 name_spot s (Some at) = Some (record { at = at + 3; len = length (line_at s at).name })
 
--- a form stands where a line was found
-abbrev pub FormAt : List ℕ → Option ℕ → Type 0
-FormAt s None = Unit {0}
-FormAt s (Some at) = is_form (drop at s) ≡ true
+-- what a line tells, if there is one
+abbrev pub told_at : Option FormAt → Reply
+told_at None = unknown
+told_at (Some l) = told (line_at l.sheet.now l.at).value
 
 -- the part that holds the value of the question's line: settled, read as the sheet replies, and inside the sheet
 pub record ValueOf (s : List ℕ) (letter : ℕ) (name : List ℕ) (r : Option Spot) : Type 0 where

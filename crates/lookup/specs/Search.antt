@@ -1,5 +1,6 @@
 -- A search by halves: what it finds, in how many rounds, and what its answer says of the sheet. Assumes nothing.
-use Rattle.std.specs.Prelude.{ℕ, zero, suc, ◌+◌, ◌/◌, ◌≡◌, true, length, take, drop, get_or, eqb, None, Option, Some}
+use Rattle.std.specs.Prelude.{ℕ, zero, suc, ◌+◌, ◌/◌, ◌≡◌, true, length, take, drop, get_or, eqb, None, Option, Some, IfSome}
+use Rattle.std.specs.Option.{option_map}
 use mathlib.Core.List.{List, [], ◌∷◌, Memᴰ}
 use Rattle.runs.specs.Runs.{pick, same_text, cmp}
 use Rattle.std.specs.declared.cmp.Ordering.{Ordering}
@@ -8,6 +9,7 @@ use Rattle.sheet.specs.Limits.{enough_rounds}
 use Rattle.sheet.specs.Forms.{is_form, key, key_of}
 use Rattle.sheet.specs.Lines.{starts_of, line_at}
 use Rattle.sheet.specs.Replies.{Reply, unknown, told, reply}
+use Rattle.sheet.specs.declared.form.FormAt.{FormAt}
 
 -- the line with the key q among those that begin at the places given
 abbrev pub place_in : List ℕ → List ℕ → List ℕ → Option ℕ
@@ -60,3 +62,8 @@ pub record Sought (s : List ℕ) (letter : ℕ) (name : List ℕ) (r : Option �
   pub counted : r ≡ asked enough_rounds s (starts_of s) (key_of letter name)
   pub answers : answer_at s r ≡ reply s letter name
   pub placed : Placed s letter name r
+
+-- the same of the line itself
+pub record Found (s : List ℕ) (letter : ℕ) (name : List ℕ) (r : Option FormAt) : Type 0 where
+  pub sought : Sought s letter name (option_map (λ l. l.at) r)
+  pub of_sheet : IfSome r (λ l. l.sheet.now ≡ s)

@@ -1,15 +1,15 @@
 // What an accepted sheet replies to the questions that are asked of it: the letters of a name, the infinitive of a link, the
 // kind of a suffix, and the place of a name.
-ghost use Rattle.std.specs.Prelude.{◌≡◌, ◌++◌};
+ghost use Rattle.std.specs.Prelude.{◌≡◌, ◌++◌, Some};
 ghost use Rattle.sheet.specs.Replies.{letters_told, letters_for};
 ghost use Rattle.lookup.specs.Begins.{Begun};
-ghost use Rattle.lookup.specs.Answers.{FormAt, value_spot, text_at, SpotIn, ValueOf, NameOf, kind_for};
+ghost use Rattle.lookup.specs.Answers.{value_spot, told_at, SpotIn, ValueOf, NameOf, kind_for};
 
 use crate::begins::Range;
 use crate::lexicon::Lexicon;
 use runs::same;
+use sheet::form::FormAt;
 use sheet::letters::{Letters, read_letters};
-use sheet::line::{name_end, value_end};
 
 // A part of the sheet: `len` bytes from byte `at` on.
 #[derive(Clone, Copy)]
@@ -25,37 +25,32 @@ pub enum SheetKind {
     Comp,
 }
 
-// Where the value stands in the line that a search has found, if it has.
-fn value_at(sheet: &[u8], line: Option<usize>) -> Option<Spot>
-    requires { FormAt sheet.now line }
-    ensures { (result ≡ value_spot sheet.now line) × SpotIn sheet.now result }
+// Where the value of a line stands.
+fn value_spot(line: &FormAt<'_>) -> Spot
+    ensures { (Some result ≡ value_spot line.now.sheet.now (Some line.now.at)) × SpotIn line.now.sheet.now (Some result) }
 {
-    let at = line?;
-    let end = name_end(sheet, at);
-    let from = end + 2;
-    let to = value_end(sheet, at, end);
-    let len = to - from;
-    Some(Spot { at: from, len })
+    let (from, to) = line.value_ends();
+    Spot {
+        at: from,
+        len: to - from,
+    }
 }
 
-// The letters that a value spells, none where there is no line.
-fn letters_at(sheet: &[u8], v: Option<Spot>) -> Letters
-    requires { SpotIn sheet.now v }
-    ensures { result ≡ letters_told (text_at sheet.now v) }
+// The letters of a line, none where there is no line.
+fn letters_at(line: Option<FormAt<'_>>) -> Letters
+    ensures { result ≡ letters_told (told_at line.entry) }
 {
-    let Some(v) = v else {
-        return Letters {
+    match line {
+        None => Letters {
             word: false,
             head: false,
             verb: false,
             pronoun: false,
             spelled: false,
             tag: None,
-        };
-    };
-    let at = v.at;
-    let end = at + v.len;
-    read_letters(&sheet[at..end])
+        },
+        Some(line) => read_letters(line.value()),
+    }
 }
 
 impl Lexicon<'_> {
@@ -63,20 +58,20 @@ impl Lexicon<'_> {
     pub fn value_of(&self, letter: u8, p: &[u8], q: &[u8]) -> Option<Spot>
         ensures { ValueOf self.now.bytes.now letter (p.now ++ q.now) result }
     {
-        let search = self.seek(letter, p, q);
-        value_at(self.bytes, search.found)
+        let line = self.seek(letter, p, q).found?;
+        Some(value_spot(&line))
     }
 
     // Where the name that `p` and then `q` make stands in its own `w` line, if it has one.
     pub fn spot_of(&self, p: &[u8], q: &[u8]) -> Option<Spot>
         ensures { NameOf self.now.bytes.now 0x77 (p.now ++ q.now) result }
     {
-        let search = self.seek(b'w', p, q);
-        let at = search.found?;
-        let from = at + 3;
-        let end = name_end(self.bytes, at);
-        let len = end - from;
-        Some(Spot { at: from, len })
+        let line = self.seek(b'w', p, q).found?;
+        let (from, to) = line.name_ends();
+        Some(Spot {
+            at: from,
+            len: to - from,
+        })
     }
 
     // Where the infinitive of a link stands, if the sheet has a line for the link.
@@ -90,10 +85,8 @@ impl Lexicon<'_> {
     pub fn kind_of(&self, name: &[u8]) -> Option<SheetKind>
         ensures { result ≡ kind_for self.now.bytes.now name.now }
     {
-        let v = self.value_of(b'k', name, b"")?;
-        let at = v.at;
-        let end = at + v.len;
-        if same(&self.bytes[at..end], b"post") {
+        let line = self.seek(b'k', name, b"").found?;
+        if same(line.value(), b"post") {
             Some(SheetKind::Post)
         } else {
             Some(SheetKind::Comp)
@@ -104,7 +97,7 @@ impl Lexicon<'_> {
     pub fn letters_of(&self, p: &[u8], q: &[u8]) -> Letters
         ensures { result ≡ letters_for self.now.bytes.now (p.now ++ q.now) }
     {
-        letters_at(self.bytes, self.value_of(b'w', p, q))
+        letters_at(self.seek(b'w', p, q).found)
     }
 
     // The same, where the lines whose names begin with `p` are known: the name is sought among these.
@@ -112,7 +105,6 @@ impl Lexicon<'_> {
         requires { Begun self.now.bytes.now self.now.starts.now 0x77 p.now range }
         ensures { result ≡ letters_for self.now.bytes.now (p.now ++ q.now) }
     {
-        let line = self.seek_in(range, b'w', p, q);
-        letters_at(self.bytes, value_at(self.bytes, line))
+        letters_at(self.seek_in(range, b'w', p, q))
     }
 }

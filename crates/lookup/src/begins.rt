@@ -1,11 +1,12 @@
 // The lines of a letter whose names begin alike. They stand together, so that two searches by halves find the first and the last of
 // them; a question whose name begins so is then sought among these alone, by what follows.
 ghost use Rattle.std.specs.Prelude.{◌++◌, ◌≤◌, length};
-ghost use Rattle.lookup.specs.Search.{Sought};
+ghost use Rattle.lookup.specs.Search.{Found};
 ghost use Rattle.lookup.specs.Begins.{Begun, Edged, Ended};
 
 use crate::lexicon::Lexicon;
-use sheet::keys::{head_order, order_behind};
+use crate::search::halve;
+use sheet::form::FormAt;
 use std::cmp::Ordering;
 
 // Lines of a sheet by their numbers: from `lo` on, before `hi`.
@@ -27,15 +28,17 @@ impl Lexicon<'_> {
     fn edge_of(&self, letter: u8, head: &[u8]) -> Edge
         ensures { Edged self.now.bytes.now self.now.starts.now letter head.now result }
     {
-        let seen = self.halved(0, self.starts.len(), |at| {
-            head_order(self.bytes, at, letter, head)
+        let seen = halve(0, self.starts.len(), |i| {
+            self.line(i).head_order(letter, head)
         });
         let top = seen.hi;
         let Some(one) = seen.found else {
             return Edge { lo: top, top };
         };
-        let before = self.halved(seen.lo, one, |at| {
-            head_order(self.bytes, at, letter, head).then(Ordering::Greater)
+        let before = halve(seen.lo, one, |i| {
+            self.line(i)
+                .head_order(letter, head)
+                .then(Ordering::Greater)
         });
         Edge { lo: before.lo, top }
     }
@@ -45,8 +48,8 @@ impl Lexicon<'_> {
         requires { (from ≤ to) × (to ≤ length self.now.starts.now) }
         ensures { Ended self.now.bytes.now self.now.starts.now letter head.now from to result }
     {
-        let behind = self.halved(from, to, |at| {
-            head_order(self.bytes, at, letter, head).then(Ordering::Less)
+        let behind = halve(from, to, |i| {
+            self.line(i).head_order(letter, head).then(Ordering::Less)
         });
         behind.hi
     }
@@ -64,13 +67,13 @@ impl Lexicon<'_> {
 
     // The line of the question (letter, the name that `p` and then `q` make) among the lines whose names begin with `p`: only what
     // follows is compared.
-    pub(crate) fn seek_in(&self, range: Range, letter: u8, p: &[u8], q: &[u8]) -> Option<usize>
+    pub(crate) fn seek_in(&self, range: Range, letter: u8, p: &[u8], q: &[u8]) -> Option<FormAt<'_>>
         requires { Begun self.now.bytes.now self.now.starts.now letter p.now range }
-        ensures { Sought self.now.bytes.now letter (p.now ++ q.now) result }
+        ensures { Found self.now.bytes.now letter (p.now ++ q.now) result }
     {
-        let seen = self.halved(range.lo, range.hi, |at| {
-            order_behind(self.bytes, at, letter, p, q)
+        let seen = halve(range.lo, range.hi, |i| {
+            self.line(i).order_behind(letter, p, q)
         });
-        seen.found.map(|i| usize::from(self.starts[i]))
+        self.stopped(seen.found)
     }
 }

@@ -34,19 +34,36 @@ impl FormAt<'_> {
         &self.sheet[self.at + 3..]
     }
 
-    // Where its name ends, which begins with its fourth byte.
-    pub fn name_end(&self) -> usize
-        ensures { result ≡ name_end self.now.sheet.now self.now.at }
+    // Where its name begins, and where it ends.
+    pub fn name_ends(&self) -> (usize, usize)
+        ensures { (result.0 ≡ self.now.at + 3) × (result.1 ≡ name_end self.now.sheet.now self.now.at) }
     {
-        find(self.sheet, self.at + 3, self.sheet.len(), b' ')
+        let from = self.at + 3;
+        (from, find(self.sheet, from, self.sheet.len(), b' '))
     }
 
     // Where its value begins, and where it ends.
     pub fn value_ends(&self) -> (usize, usize)
         ensures { (result.0 ≡ name_end self.now.sheet.now self.now.at + 2) × (result.1 ≡ value_end self.now.sheet.now self.now.at) }
     {
-        let from = self.name_end() + 2;
+        let from = self.name_ends().1 + 2;
         (from, find(self.sheet, from, self.sheet.len(), b')'))
+    }
+
+    // Its name.
+    pub fn name(&self) -> &[u8]
+        ensures { result.now ≡ (line_at self.now.sheet.now self.now.at).name }
+    {
+        let (from, to) = self.name_ends();
+        &self.sheet[from..to]
+    }
+
+    // Its value.
+    pub fn value(&self) -> &[u8]
+        ensures { result.now ≡ (line_at self.now.sheet.now self.now.at).value }
+    {
+        let (from, to) = self.value_ends();
+        &self.sheet[from..to]
     }
 
     // The order of the line and the question (letter, the name that `p` and then `q` make).
