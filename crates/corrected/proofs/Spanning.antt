@@ -211,3 +211,11 @@ module _ (s starts : List ℕ) (letter : ℕ) (name : List ℕ) (x : Indexed s s
         by (Stand.alike k) =
             let f : Less ≡ Greater = sym less ∙ ap (headed_at s starts letter name) k ∙ g.above (omega arith) in
             let z : ◌≡◌ {A = ℕ} 0 1 = cc in absurd (omega arith)
+
+    pub span-other : (o ≡ Equal → ⊥) → Spanned s q (record { from = at; to = at })
+    span-other n = go o refl
+      where
+        go : (y : Ordering) → o ≡ y → Spanned s q (record { from = at; to = at })
+        go Less e = absurd (span_never e)
+        go Equal e = absurd (n e)
+        go Greater e = span-lone e

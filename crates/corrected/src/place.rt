@@ -7,8 +7,6 @@ ghost use Rattle.corrected.specs.Spans.{Spanned, given_of, Opens};
 use lookup::lexicon::Lexicon;
 use lookup::lines::with_lexicon;
 use refusals::Refusal;
-use sheet::keys::line_order;
-use sheet::line::{name_end, value_end};
 use sheet::walk::{Reached, Walk};
 use std::cmp::Ordering;
 
@@ -54,27 +52,23 @@ fn read_given(line: &[u8]) -> Option<Given>
 fn span_of(sheet: &Lexicon<'_>, letter: u8, name: &[u8]) -> Span
     ensures { Spanned sheet.now.bytes.now (key_of letter name.now) result }
 {
-    let range = sheet.range_of(letter, name);
-    let i = range.lo;
+    let i = sheet.range_of(letter, name).lo;
     if sheet.starts.len() <= i {
         return Span {
             from: sheet.bytes.len(),
             to: sheet.bytes.len(),
         };
     }
-    let at = usize::from(sheet.starts[i]);
-    let order = line_order(sheet.bytes, at, letter, name, b"");
-    match order {
-        Ordering::Equal => {
-            let end = name_end(sheet.bytes, at);
-            let stop = value_end(sheet.bytes, at, end);
-            Span {
-                from: at,
-                to: stop + 3,
-            }
-        }
-        Ordering::Less => Span { from: at, to: at },
-        Ordering::Greater => Span { from: at, to: at },
+    let line = sheet.line(i);
+    match line.order(letter, name, b"") {
+        Ordering::Equal => Span {
+            from: line.at,
+            to: line.value_ends().1 + 3,
+        },
+        _ => Span {
+            from: line.at,
+            to: line.at,
+        },
     }
 }
 

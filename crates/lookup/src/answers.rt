@@ -67,10 +67,10 @@ impl Lexicon<'_> {
         ensures { NameOf self.now.bytes.now 0x77 (p.now ++ q.now) result }
     {
         let line = self.seek(b'w', p, q).found?;
-        let (from, to) = line.name_ends();
+        let (start, end) = line.name_ends();
         Some(Spot {
-            at: from,
-            len: to - from,
+            at: start,
+            len: end - start,
         })
     }
 

@@ -20,9 +20,10 @@ impl Lexicon<'_> {
         requires { i < length self.now.starts.now }
         ensures { (result.sheet.now ≡ self.now.bytes.now) × (result.at ≡ get_or self.now.starts.now i 0) }
     {
+        let at = usize::from(self.starts[i]);
         FormAt {
             sheet: self.bytes,
-            at: usize::from(self.starts[i]),
+            at,
         }
     }
 }

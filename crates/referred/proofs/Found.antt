@@ -21,20 +21,6 @@ use Rattle.referred.specs.Report.{is_text, fault_at, Finding, found, findings_at
 use Rattle.referred.specs.Codes.{code_for, code_of, codes_of}
 use Rattle.referred.specs.Coded.{FormsAt, fault_in, code_line, code_lines, coded_text}
 
--- one text, and those to come
-module _ (k : List ℕ) (ts : List (List ℕ)) (i : ℕ) where
-  pub text-found : i < length ts → same_text k (key_of 0x6B (get_or ts i [])) ≡ true → is_text k (drop i ts) ≡ true
-  unfolding is_text
-  text-found h e = ap (is_text k) (drop-cons ts i [] h) ∙ rw e
-
-  pub text_next : i < length ts → same_text k (key_of 0x6B (get_or ts i [])) ≡ false → is_text k (drop i ts) ≡ is_text k (drop (i + 1) ts)
-  unfolding is_text
-  text_next h e = ap (is_text k) (drop-cons ts i [] h) ∙ rw (e, add-one)
-
-  pub text-none : length ts ≤ i → is_text k (drop i ts) ≡ false
-  unfolding is_text
-  text-none h = rw (drop_of_length-le ts h)
-
 codes_append : (fs gs : List Finding) → codes_of (fs ++ gs) ≡ codes_of fs ++ codes_of gs
 codes_append [] gs = refl
 codes_append (f ∷ fs) gs = ap (λ (x : List ℕ). code_of f ∷ x) (codes_append fs gs)
@@ -125,7 +111,6 @@ module _ (s cs : List ℕ) (i : ℕ) where
   lines_end h = rw (drop_of_length-le cs h)
 
 -- a code's line, put in three parts
-pub coded-line : (s : List ℕ) (c : ℕ) (f : Fault) (end : ℕ) → is_form (drop (c / 256) s) ≡ true → f ≡ fault_in c → end ≡ name_end s (c / 256)
-    → before f ++ (take (end - (c / 256 + 3)) (drop (c / 256 + 3) s) ++ behind f) ≡ code_line s c
+pub coded-line : (s : List ℕ) (c : ℕ) (f : Fault) → f ≡ fault_in c → before f ++ ((line_at s (c / 256)).name ++ behind f) ≡ code_line s c
 unfolding code_line
-coded-line s c f end h e n = rw (name-cut s (c / 256) h end n, e)
+coded-line s c f e = rw e

@@ -1,7 +1,6 @@
 // The lines whose reference does not hold, found in one pass with one question for each link.
-ghost use Rattle.std.specs.Prelude.{◌≡◌, true, ◌++◌, ◌≤◌, ◌<◌, length, drop};
-ghost use Rattle.runs.specs.Runs.{same_text};
-ghost use Rattle.sheet.specs.Forms.{is_form, key, key_of};
+ghost use Rattle.std.specs.Prelude.{◌≡◌, ◌++◌, ◌≤◌, ◌<◌, length, drop};
+ghost use Rattle.sheet.specs.Forms.{key};
 ghost use Rattle.sheet.specs.Lines.{line_at};
 ghost use Rattle.sheet.specs.Replies.{reply};
 ghost use Rattle.tables.specs.Tables.{affixes};
@@ -11,30 +10,16 @@ ghost use Rattle.referred.specs.Codes.{code_for, codes_of};
 use crate::Fault;
 use lookup::lexicon::Lexicon;
 use lookup::starts::Start;
-use sheet::keys::line_order;
+use sheet::form::FormAt;
 use sheet::letters::read_letters;
-use sheet::line::{name_end, value_end};
 
-// Whether the kind line that begins at `at` names a text. A form stands there.
-fn names_text(sheet: &[u8], at: usize, text: &[u8]) -> bool
-    requires { is_form (drop at sheet.now) ≡ true }
-    ensures { result ≡ same_text (key (line_at sheet.now at)) (key_of 0x6B text.now) }
+// Whether a kind line names one of the 25 texts.
+fn names_any(line: &FormAt<'_>) -> bool
+    ensures { result ≡ is_text (key (line_at line.now.sheet.now line.now.at)) affixes }
 {
-    line_order(sheet, at, b'k', text, b"").is_eq()
-}
-
-// Whether it names one of the 25 texts.
-fn names_any(sheet: &[u8], at: usize) -> bool
-    requires { is_form (drop at sheet.now) ≡ true }
-    ensures { result ≡ is_text (key (line_at sheet.now at)) affixes }
-{
-    let texts = tables::affix_rows();
-    for text in texts {
-        if names_text(sheet, at, text.as_bytes()) {
-            return true;
-        }
-    }
-    false
+    tables::affix_rows()
+        .iter()
+        .any(|text| line.order(b'k', text.as_bytes(), b"").is_eq())
 }
 
 // What is wrong with the verb that a link names, if anything is.
@@ -53,25 +38,22 @@ fn verb_fault(sheet: &Lexicon<'_>, infinitive: &[u8]) -> Option<Fault>
     Some(Fault::NotVerb)
 }
 
-// What is wrong with what the line that begins at `at` refers to, if anything is. A form stands there.
-fn line_fault(sheet: &Lexicon<'_>, at: usize) -> Option<Fault>
-    requires { is_form (drop at sheet.now.bytes.now) ≡ true }
-    ensures { result ≡ fault_at sheet.now.bytes.now at }
+// What is wrong with what a line of the sheet refers to, if anything is.
+fn line_fault(sheet: &Lexicon<'_>, line: &FormAt<'_>) -> Option<Fault>
+    requires { line.now.sheet.now ≡ sheet.now.bytes.now }
+    ensures { result ≡ fault_at sheet.now.bytes.now line.now.at }
 {
-    let letter = sheet.bytes[at + 1];
-    if letter == b'l' {
-        let end = name_end(sheet.bytes, at);
-        let to = value_end(sheet.bytes, at, end);
-        let from = end + 2;
-        return verb_fault(sheet, &sheet.bytes[from..to]);
-    }
-    if letter == b'k' {
-        if names_any(sheet.bytes, at) {
-            return None;
+    match line.letter() {
+        b'l' => verb_fault(sheet, line.value()),
+        b'k' => {
+            if names_any(line) {
+                None
+            } else {
+                Some(Fault::Unused)
+            }
         }
-        return Some(Fault::Unused);
+        _ => None,
     }
-    None
 }
 
 // What is stored of a line and its fault: the fault's number in the lowest byte, above it the line's first byte.
@@ -96,7 +78,11 @@ pub(crate) fn find_in(sheet: &Lexicon<'_>, out: &mut [u32]) -> usize
     let mut n: usize = 0;
     for &start in sheet.starts {
         let at = usize::from(start);
-        let Some(fault) = line_fault(sheet, at) else {
+        let line = FormAt {
+            sheet: sheet.bytes,
+            at,
+        };
+        let Some(fault) = line_fault(sheet, &line) else {
             continue;
         };
         out[n] = code_of(at, fault);

@@ -8,7 +8,7 @@ ghost use Rattle.referred.specs.Codes.{codes_of};
 ghost use Rattle.referred.specs.Coded.{fault_in, code_line};
 
 use crate::Fault;
-use sheet::line::name_end;
+use sheet::form::FormAt;
 use writing::{Printed, Writer};
 
 // What stands in a report's line before the name.
@@ -51,10 +51,9 @@ fn put_line(w: &mut Writer, sheet: &[u8], code: u32)
 {
     let fault = fault_in(code);
     let at = (code / 256) as usize;
-    let end = name_end(sheet, at);
-    let name = &sheet[at + 3..end];
+    let line = FormAt { sheet, at };
     w.put(before(fault));
-    w.put(name);
+    w.put(line.name());
     w.put(behind(fault));
 }
 

@@ -71,15 +71,17 @@ impl FormAt<'_> {
         ensures { result ≡ cmp (key (line_at self.now.sheet.now self.now.at)) (key_of letter (p.now ++ q.now)) }
     {
         let name = self.from_name();
-        self.letter().cmp(&letter).then_with(|| parts_order(name, p, q))
+        self.letter()
+            .cmp(&letter)
+            .then_with(|| parts_order(name, p, q))
     }
 
     // How the line stands to all lines of the letter whose names begin with `head`: equal if it is one of them.
     pub fn head_order(&self, letter: u8, head: &[u8]) -> Ordering
         ensures { result ≡ headed (key (line_at self.now.sheet.now self.now.at)) (key_of letter head.now) }
     {
-        let name = self.from_name();
-        self.letter().cmp(&letter).then_with(|| along(name, head))
+        let own = self.from_name();
+        self.letter().cmp(&letter).then_with(|| along(own, head))
     }
 
     // The order of the line and the question, where the line is one of the letter whose name begins with `p`.

@@ -3,6 +3,8 @@ use Prim.Native.Nat.{ℕ}
 use mathlib.Core.Path.{◌≡◌, sym, ap, subst, ◌∙◌}
 use mathlib.Core.List.{List, ◌++◌}
 use lib.ListN.{length, drop}
+use mathlib.Core.Bool.{true}
+use Rattle.sheet.specs.Forms.{is_form}
 use Rattle.lookup.proofs.Settled.{indexed-form}
 use Rattle.referred.specs.Report.{fault_at, findings_at}
 use Rattle.referred.specs.Codes.{code_for, codes_of}
@@ -10,8 +12,10 @@ use Rattle.referred.proofs.Refers.{start_small}
 use Rattle.referred.proofs.Kept.{kept_none, kept_some, kept-all}
 use Rattle.referred.proofs.faults.find_in.Goals as goal
 
-pub line_fault-requires : goal.line_fault-requires
-line_fault-requires c = rw c.from-at.ensures (indexed-form _ _ _ c.args.sheet.now.indexed c.loop-start-test.true)
+pub invariant_of-line : goal.invariant_of-line
+invariant_of-line c =
+    let f : is_form (drop c.from-at.result c.args.sheet.now.bytes.now) ≡ true = rw c.from-at.ensures (indexed-form _ _ _ c.args.sheet.now.indexed c.loop-start-test.true) in
+    record { form = f }
 
 pub code_of-requires : goal.code_of-requires
 code_of-requires c = rw c.from-at.ensures (start_small _ _ _ c.args.sheet.now.indexed c.loop-start-test.true)

@@ -8,5 +8,5 @@ use Rattle.lookup.proofs.lexicon.Lexicon.line.Goals as goal
 pub invariant_of-result : goal.invariant_of-result
 invariant_of-result c =
     let l = c.args.self.now in
-    let f : is_form (drop c.from.result l.bytes.now) ≡ true = rw c.from.ensures (indexed-form l.bytes.now l.starts.now c.args.i l.indexed c.requires) in
+    let f : is_form (drop c.from-at.result l.bytes.now) ≡ true = rw c.from-at.ensures (indexed-form l.bytes.now l.starts.now c.args.i l.indexed c.requires) in
     record { form = f }

@@ -7,7 +7,7 @@ pub returns-in_err-line : goal.returns-in_err-line
 returns-in_err-line c = rw c.from_residual.ensures (found-none _ _ _ _ c.seek.ensures.0 c.in_err-line.was).1
 
 pub overflow_sub-result : goal.overflow_sub-result
-overflow_sub-result c = omega (arith, c.name_ends-from.ensures.0, c.name_ends-from.ensures.1)
+overflow_sub-result c = omega (arith, c.name_ends-start.ensures.0, c.name_ends-start.ensures.1)
 
 pub returns : goal.returns
-returns c = found-name _ _ _ _ c.seek.ensures.0 _ c.in_ok-line.was _ _ c.name_ends-from.ensures.0 c.name_ends-from.ensures.1
+returns c = found-name _ _ _ _ c.seek.ensures.0 _ c.in_ok-line.was _ _ c.name_ends-start.ensures.0 c.name_ends-start.ensures.1

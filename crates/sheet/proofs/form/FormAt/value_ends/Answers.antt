@@ -20,6 +20,8 @@ unfolding slice
 returns c =
     let s = c.args.self.now.sheet.now in
     let n = c.name_ends-from.result.1 + 2 in
-    let e = ap (λ (e : ℕ). e + 2) c.name_ends-from.ensures.1 in
-    (e, c.find.ensures.0 ∙ ap (λ (l : List ℕ). n + index_of 0x29 (drop n l)) (take-length s)
-    ∙ ap (λ (e : ℕ). e + index_of 0x29 (drop e s)) e ∙ value-ends s c.args.self.now.at c.args.self.now.form)
+    let e = ap (λ (e : ℕ). e + 2) c.name_ends-from.ensures.1 in (
+      e,
+      c.find.ensures.0 ∙ ap (λ (l : List ℕ). n + index_of 0x29 (drop n l)) (take-length s)
+          ∙ ap (λ (e : ℕ). e + index_of 0x29 (drop e s)) e ∙ value-ends s c.args.self.now.at c.args.self.now.form,
+    )
