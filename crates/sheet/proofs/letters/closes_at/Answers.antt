@@ -1,5 +1,4 @@
 -- `sheet::letters::closes_at` meets its contract: at most the tag is left where one stands, else nothing. Assumes nothing.
-use native.Mathlib.Omega.{arith}
 use mathlib.Core.Path.{sym, ap, ◌∙◌}
 use Rattle.sheet.specs.Letters.{is_tagged}
 use Rattle.sheet.proofs.Kept.{closes-tagged, closes_untagged}
