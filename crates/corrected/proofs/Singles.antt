@@ -1,5 +1,5 @@
 -- What the reader's step tells of a given line: whether it is a single form, and its key. The proofs of `place` cite these. Assumes nothing.
-use Rattle.std.specs.Prelude.{Err, Ok, Some}
+use Rattle.std.specs.Prelude.{Err, Ok, Result, Option, Some, None}
 use Prim.Native.Nat.{ℕ, ◌+◌, ◌-◌, ◌≤◌, ◌<◌}
 use native.Mathlib.Omega.{arith}
 use mathlib.Core.Path.{◌≡◌, refl, sym, ap, subst, ◌∙◌}
@@ -15,32 +15,33 @@ use Rattle.runs.proofs.Ends.{same_lengths}
 use Rattle.sheet.specs.Forms.{entry_of, written, is_form, key, key_of}
 use Rattle.sheet.specs.Steps.{name_end, value_end}
 use Rattle.sheet.proofs.Forms.{written-length, form_shape, line-fits, behind}
-use Rattle.sheet.specs.Walks.{reached}
-use Rattle.sheet.specs.declared.walk.Reached.{Reached}
-use Rattle.sheet.specs.declared.walk.Reached.TheVariants.{Form, NotAbove, NoForm, End}
+use Rattle.sheet.specs.Walks.{form_reached, reached}
+use Rattle.sheet.specs.declared.walk.Walk.{Walk}
+use Rattle.sheet.specs.declared.line.Form.{Form}
+use Rattle.sheet.specs.declared.line.LineFault.{LineFault}
+use Rattle.sheet.specs.declared.line.LineFault.TheVariants.{NotAbove, NoForm}
 use Rattle.sheet.proofs.Walks.{key-told, at_first}
 use Rattle.refusals.specs.declared.Refusal.TheVariants.{NoSingleForm}
 use Rattle.corrected.specs.Sets.{is_single}
 use Rattle.corrected.specs.Answers.{of_line}
 use Rattle.corrected.specs.Spans.{given_of}
-use Rattle.std.specs.Prelude.{Option, Some, None}
 use Rattle.corrected.specs.declared.place.Given.{Given}
 
 -- what the walk's step tells of a line that is the first of a sheet
-abbrev pub ToldFirst : List ℕ → Reached → Type 0
-ToldFirst line End = length line ≤ 0
-ToldFirst line NoForm = is_form line ≡ false
-ToldFirst line NotAbove = ⊥
-ToldFirst line (Form l e f next) = (is_form line ≡ true) × (l ≡ (entry_of line).letter) × (e ≡ name_end line 0) × (f ≡ value_end line 0) × (next.at ≡ value_end line 0 + 3)
+abbrev pub ToldFirst : List ℕ → Result (Option (Form Walk)) LineFault → Type 0
+ToldFirst line (Ok None) = length line ≤ 0
+ToldFirst line (Err NoForm) = is_form line ≡ false
+ToldFirst line (Err NotAbove) = ⊥
+ToldFirst line (Ok (Some form)) = (is_form line ≡ true) × (form ≡ form_reached line at_first)
 
-pub first-told : (line : List ℕ) (r : Reached) → r ≡ reached line at_first → ToldFirst line r
+pub first-told : (line : List ℕ) (r : Result (Option (Form Walk)) LineFault) → r ≡ reached line at_first → ToldFirst line r
 unfolding reached
 first-told line r q = subst (ToldFirst line) (sym q) (by (leb (length line) 0) (is_form line) refl refl)
   where
     by : (b c : Bool) → leb (length line) 0 ≡ b → is_form line ≡ c
-        → ToldFirst line (pick b End (pick c (Form (entry_of line).letter (name_end line 0) (value_end line 0) (record { at = value_end line 0 + 3; last = Some 0 })) NoForm))
+        → ToldFirst line (pick b (Ok None) (pick c (Ok (Some (form_reached line at_first))) (Err NoForm)))
     by true c p r = leb-true _ _ p
-    by false true p r = (r, refl, refl, refl, refl)
+    by false true p r = (r, refl)
     by false false p r = r
 
 -- a given line by its letter and where its name ends
@@ -91,6 +92,13 @@ module _ (line : List ℕ) where
   pub none-given : is_form line ≡ false → None ≡ given_of line
   unfolding given_of
   none-given f = rw (no_single f)
+
+  -- where no form is reached
+  pub none_reached : (r : Result (Option (Form Walk)) LineFault) → r ≡ reached line at_first → ((form : Form Walk) → r ≡ Ok (Some form) → ⊥) → None ≡ given_of line
+  none_reached (Ok None) e n = empty_given (first-told line (Ok None) e)
+  none_reached (Err NoForm) e n = none-given (first-told line (Err NoForm) e)
+  none_reached (Err NotAbove) e n = absurd (first-told line (Err NotAbove) e)
+  none_reached (Ok (Some form)) e n = absurd (n form refl)
 
   pub more_given : is_form line ≡ true → (n : ℕ) → n ≡ value_end line 0 + 3 → n < length line → None ≡ given_of line
   unfolding given_of

@@ -16,10 +16,7 @@ pub fn put_line(buffer: &mut [u8], used: usize, line: &[u8]) -> Result<usize, Re
 {
     let span = find_line(buffer, used, line)?;
     let size = span.from + line.len() + (used - span.to);
-    if buffer.len() < size {
-        return Err(Refusal::NoRoom);
-    }
-    if SHEET_BYTES < size {
+    if buffer.len() < size || SHEET_BYTES < size {
         return Err(Refusal::NoRoom);
     }
     replace(buffer, span.from, span.to, used, line);

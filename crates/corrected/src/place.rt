@@ -7,7 +7,7 @@ ghost use Rattle.corrected.specs.Spans.{Spanned, given_of, Opens};
 use lookup::lexicon::Lexicon;
 use lookup::lines::with_lexicon;
 use refusals::Refusal;
-use sheet::walk::{Reached, Walk};
+use sheet::walk::Walk;
 use std::cmp::Ordering;
 
 // The bytes of a line in the sheet: from its first byte up to behind its 0A. Of a line that is not there, the place where it would stand.
@@ -28,24 +28,16 @@ pub(crate) struct Given {
 fn read_given(line: &[u8]) -> Option<Given>
     ensures { result ≡ given_of line.now }
 {
-    let walk = Walk { at: 0, last: None };
-    let read = walk.step(line);
-    match read {
-        Reached::End => None,
-        Reached::NoForm => None,
-        Reached::NotAbove => None,
-        Reached::Form {
-            letter,
-            name_end,
-            value_end: _,
-            next,
-        } => {
-            if next.at < line.len() {
-                return None;
-            }
-            Some(Given { letter, name_end })
-        }
+    let Ok(Some(form)) = (Walk { at: 0, last: None }).step(line) else {
+        return None;
+    };
+    if form.next.at < line.len() {
+        return None;
     }
+    Some(Given {
+        letter: form.letter,
+        name_end: form.name_end,
+    })
 }
 
 // Where the line of a first letter and a name stands.
@@ -76,9 +68,7 @@ fn span_of(sheet: &Lexicon<'_>, letter: u8, name: &[u8]) -> Span
 fn find_in_lines(sheet: &Lexicon<'_>, line: &[u8]) -> Result<Span, Refusal>
     ensures { Opens (of_line line.now) sheet.now.bytes.now line.now result }
 {
-    let Some(given) = read_given(line) else {
-        return Err(Refusal::NoSingleForm);
-    };
+    let given = read_given(line).ok_or(Refusal::NoSingleForm)?;
     Ok(span_of(sheet, given.letter, &line[3..given.name_end]))
 }
 

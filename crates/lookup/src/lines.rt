@@ -9,7 +9,7 @@ use crate::lexicon::Lexicon;
 use crate::starts::Start;
 use sheet::check::SheetFault;
 use sheet::limits::{ALL_STARTS, FEW_STARTS, SHEET_BYTES, SMALL_BYTES};
-use sheet::walk::{Reached, Walk};
+use sheet::walk::Walk;
 
 // The check of a sheet, as `sheet::check::check_sheet` makes it, which gives how many lines there are. Their first bytes are stored at the
 // front of `out`, which has room for a line of every 10 bytes: of all lines, or of those before the faulty one.
@@ -22,25 +22,12 @@ pub fn check_lines(s: &[u8], out: &mut [Start]) -> Result<usize, SheetFault>
     }
     let mut n: usize = 0;
     let mut walk = Walk { at: 0, last: None };
-    loop {
-        let at = walk.at;
-        let line = walk.step(s);
-        match line {
-            Reached::End => return Ok(n),
-            Reached::NoForm => return Err(SheetFault::NoForm(at)),
-            Reached::NotAbove => return Err(SheetFault::NotAbove(at)),
-            Reached::Form {
-                letter: _,
-                name_end: _,
-                value_end: _,
-                next,
-            } => {
-                out[n] = at as Start;
-                n += 1;
-                walk = next;
-            }
-        }
+    while let Some(form) = walk.step(s).map_err(|fault| fault.at(walk.at))? {
+        out[n] = walk.at as Start;
+        n += 1;
+        walk = form.next;
     }
+    Ok(n)
 }
 
 // What is asked of a sheet, with a list that has room for the starts of its lines.

@@ -1,6 +1,6 @@
 -- One stretch of a torn sheet after the other: where it ends, what becomes of it, and what is to come. The proofs of walk.rt and entry.rt
 -- cite these. Assumes nothing.
-use Rattle.std.specs.Prelude.{Some}
+use Rattle.std.specs.Prelude.{Option, Some, None, Result, Ok, Err}
 use Prim.Native.Nat.{ℕ, suc, ◌+◌, ◌-◌, ◌*◌, ◌<◌, ◌≤◌, min}
 use native.Mathlib.Omega.{arith}
 use mathlib.Core.Path.{◌≡◌, refl, sym, ap, subst, ◌∙◌}
@@ -14,11 +14,12 @@ use Rattle.runs.specs.Bytes.{index_of, index_after, slice}
 use Rattle.runs.specs.Runs.{pick, cmp, is_less}
 use Rattle.sheet.specs.Forms.{is_form, key}
 use Rattle.sheet.specs.Lines.{starts_from, line_at}
-use Rattle.sheet.specs.Steps.{name_end, value_end}
-use Rattle.sheet.specs.Walks.{key_before, Standing, starts_ahead, reached}
+use Rattle.sheet.specs.Steps.{value_end}
+use Rattle.sheet.specs.Walks.{key_before, Standing, starts_ahead, form_reached, reached}
 use Rattle.sheet.specs.declared.walk.Walk.{Walk}
-use Rattle.sheet.specs.declared.walk.Reached.{Reached}
-use Rattle.sheet.specs.declared.walk.Reached.TheVariants as step
+use Rattle.sheet.specs.declared.line.Form.{Form}
+use Rattle.sheet.specs.declared.line.LineFault.{LineFault}
+use Rattle.sheet.specs.declared.line.LineFault.TheVariants as step
 use Rattle.sheet.proofs.Forms.{line-fits, line_long}
 use Rattle.sheet.proofs.Lines.{no_lines, some-line, next_line}
 use Rattle.writing.proofs.Sizes.{digit-size, number_size}
@@ -26,7 +27,7 @@ use Rattle.rescued.specs.declared.Fate.{Fate}
 use Rattle.rescued.specs.declared.Fate.TheVariants.{Kept, NoForm, NoOrder}
 use Rattle.rescued.specs.declared.walk.Reach.{Reach}
 use Rattle.rescued.specs.Stretches.{Stretch, fate_at, last_after, end_before, stretches_from, kept_text, cut_head, cut_line, kept_over, report_over}
-use Rattle.rescued.specs.Places.{line_end, ahead, Stepped}
+use Rattle.rescued.specs.Places.{line_end, dropped_at, ahead, Stepped}
 
 -- how many bytes there are up to the first 0A and with it
 abbrev feed : List ℕ → ℕ
@@ -86,21 +87,21 @@ end_before_lem s n h = by (ltb n (length s)) refl
 
 -- what becomes of a line, by what the walk reaches
 module _ (s : List ℕ) (w : Walk) where
-  abbrev pub Fated : Reached → Type 0
-  Fated step.End = length s ≤ w.at
-  Fated step.NoForm = fate_at s (key_before s w.last) w.at ≡ NoForm
-  Fated step.NotAbove = fate_at s (key_before s w.last) w.at ≡ NoOrder
-  Fated (step.Form l e f next) =
-      (fate_at s (key_before s w.last) w.at ≡ Kept) × (is_form (drop w.at s) ≡ true) × (next ≡ record { at = value_end s w.at + 3; last = Some w.at })
+  abbrev pub Fated : Result (Option (Form Walk)) LineFault → Type 0
+  Fated (Ok None) = length s ≤ w.at
+  Fated (Err step.NoForm) = fate_at s (key_before s w.last) w.at ≡ NoForm
+  Fated (Err step.NotAbove) = fate_at s (key_before s w.last) w.at ≡ NoOrder
+  Fated (Ok (Some form)) =
+      (fate_at s (key_before s w.last) w.at ≡ Kept) × (is_form (drop w.at s) ≡ true) × (form.next ≡ record { at = value_end s w.at + 3; last = Some w.at })
 
-  pub fated : (r : Reached) → r ≡ reached s w → Fated r
+  pub fated : (r : Result (Option (Form Walk)) LineFault) → r ≡ reached s w → Fated r
   unfolding reached fate_at
   fated r q =
       subst Fated (sym q)
       (by (leb (length s) w.at) (is_form (drop w.at s)) (is_less (cmp (key_before s w.last) (key (line_at s w.at)))) refl refl refl)
     where
       by : (b c d : Bool) → leb (length s) w.at ≡ b → is_form (drop w.at s) ≡ c → is_less (cmp (key_before s w.last) (key (line_at s w.at))) ≡ d
-          → Fated (pick b step.End (pick c (pick d (step.Form (line_at s w.at).letter (name_end s w.at) (value_end s w.at) (record { at = value_end s w.at + 3; last = Some w.at })) step.NotAbove) step.NoForm))
+          → Fated (pick b (Ok None) (pick c (pick d (Ok (Some (form_reached s w))) (Err step.NotAbove)) (Err step.NoForm)))
       by true c d p q r = leb-true _ _ p
       by false true true p q r = (rw (q, r), q, refl)
       by false true false p q r = rw (q, r)
@@ -118,28 +119,26 @@ module _ (s : List ℕ) (w : Walk) where
       ∙ ap (λ (x : List ℕ). record { start = w.at; end = next.at; fate = f } ∷ stretches_from s x (starts_ahead s next)) (sym k)
 
   module _ (h : w.at < length s) (z : Standing s w.last) where
-    pub at_no_form : (r : Reached) → r ≡ reached s w → r ≡ step.NoForm → (end : ℕ) → end ≡ line_end s w.at → Stepped s w (record { fate = NoForm; next = record { at = end; last = w.last } })
-    at_no_form r e q end n =
-        let f : fate_at s (key_before s w.last) w.at ≡ NoForm = fated step.NoForm (sym q ∙ e) in
-        subst (λ (x : ℕ). Stepped s w (record { fate = NoForm; next = record { at = x; last = w.last } })) (sym n)
-        (record { further = end-further s w.at h; inside = end-inside s w.at h; standing = z; passed = passed NoForm (record { at = line_end s w.at; last = w.last }) (line_next s w.at h) (end-inside s w.at h) f refl })
+    pub at_no_form : Err step.NoForm ≡ reached s w → Stepped s w (dropped_at s w NoForm)
+    at_no_form e =
+        let f : fate_at s (key_before s w.last) w.at ≡ NoForm = fated (Err step.NoForm) e in
+        record { further = end-further s w.at h; inside = end-inside s w.at h; standing = z; passed = passed NoForm (record { at = line_end s w.at; last = w.last }) (line_next s w.at h) (end-inside s w.at h) f refl }
 
-    pub at_not_above : (r : Reached) → r ≡ reached s w → r ≡ step.NotAbove → (end : ℕ) → end ≡ line_end s w.at → Stepped s w (record { fate = NoOrder; next = record { at = end; last = w.last } })
-    at_not_above r e q end n =
-        let f : fate_at s (key_before s w.last) w.at ≡ NoOrder = fated step.NotAbove (sym q ∙ e) in
-        subst (λ (x : ℕ). Stepped s w (record { fate = NoOrder; next = record { at = x; last = w.last } })) (sym n)
-        (record { further = end-further s w.at h; inside = end-inside s w.at h; standing = z; passed = passed NoOrder (record { at = line_end s w.at; last = w.last }) (line_next s w.at h) (end-inside s w.at h) f refl })
+    pub at_not_above : Err step.NotAbove ≡ reached s w → Stepped s w (dropped_at s w NoOrder)
+    at_not_above e =
+        let f : fate_at s (key_before s w.last) w.at ≡ NoOrder = fated (Err step.NotAbove) e in
+        record { further = end-further s w.at h; inside = end-inside s w.at h; standing = z; passed = passed NoOrder (record { at = line_end s w.at; last = w.last }) (line_next s w.at h) (end-inside s w.at h) f refl }
 
-    pub at_form : (r : Reached) → r ≡ reached s w → (l a b : ℕ) (next : Walk) → r ≡ step.Form l a b next → Stepped s w (record { fate = Kept; next = next })
-    at_form r e l a b next q =
-        let f : Fated (step.Form l a b next) = fated (step.Form l a b next) (sym q ∙ e) in
+    pub at_form : (form : Form Walk) → Ok (Some form) ≡ reached s w → Stepped s w (record { fate = Kept; next = form.next })
+    at_form form e =
+        let f : Fated (Ok (Some form)) = fated (Ok (Some form)) e in
         let i = f.1 in
         let m = line_long s w.at i in
         subst (λ (x : Walk). Stepped s w (record { fate = Kept; next = x })) (sym f.2)
         (record { further = omega arith; inside = line-fits s w.at i; standing = i; passed = passed Kept (record { at = value_end s w.at + 3; last = Some w.at }) (next_line s w.at i) (line-fits s w.at i) f.0 refl })
 
-    pub at_end : (r : Reached) → r ≡ reached s w → r ≡ step.End → ⊥
-    at_end r e q = let f : length s ≤ w.at = fated step.End (sym q ∙ e) in omega arith
+    pub at_end : Ok None ≡ reached s w → ⊥
+    at_end e = let f : length s ≤ w.at = fated (Ok None) e in omega arith
 
 -- what is put of a stretch, and what is to come
 module _ (s : List ℕ) (w : Walk) (r : Reach) (k : Stepped s w r) where

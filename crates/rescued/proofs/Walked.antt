@@ -1,5 +1,5 @@
 -- What holds of the stretches to come, shown stretch by stretch. Every theorem about all stretches rests on `walked`. Assumes nothing.
-use Rattle.std.specs.Prelude.{Some}
+use Rattle.std.specs.Prelude.{Option, Some, None, Result, Ok, Err}
 use Prim.Native.Nat.{ℕ, zero, suc, ◌+◌, ◌<◌, ◌≤◌}
 use native.Mathlib.Omega.{arith}
 use mathlib.Core.Path.{◌≡◌, refl, sym, ap, subst, ◌∙◌}
@@ -16,13 +16,14 @@ use Rattle.sheet.specs.Lines.{line_at}
 use Rattle.sheet.specs.Steps.{value_end}
 use Rattle.sheet.specs.Walks.{key_before, Standing, reached}
 use Rattle.sheet.specs.declared.walk.Walk.{Walk}
-use Rattle.sheet.specs.declared.walk.Reached.{Reached}
-use Rattle.sheet.specs.declared.walk.Reached.TheVariants as step
+use Rattle.sheet.specs.declared.line.Form.{Form}
+use Rattle.sheet.specs.declared.line.LineFault.{LineFault}
+use Rattle.sheet.specs.declared.line.LineFault.TheVariants as step
 use Rattle.rescued.specs.declared.Fate.{Fate}
 use Rattle.rescued.specs.declared.Fate.TheVariants.{Kept, NoForm, NoOrder}
 use Rattle.rescued.specs.declared.walk.Reach.{Reach}
 use Rattle.rescued.specs.Stretches.{fate_at}
-use Rattle.rescued.specs.Places.{line_end, Stepped}
+use Rattle.rescued.specs.Places.{dropped_at, Stepped}
 use Rattle.rescued.proofs.Stretched.{fated, at_no_form, at_not_above, at_form, at_end}
 
 -- what becomes of a line, told by its form and the last kept one
@@ -59,17 +60,17 @@ module _ (s : List ℕ) where
   stepped : (w : Walk) → w.at < length s → Standing s w.last → (r : Reach) × Stepped s w r × Meant s w r r.fate
   stepped w h z = by (reached s w) refl
     where
-      by : (x : Reached) → x ≡ reached s w → (r : Reach) × Stepped s w r × Meant s w r r.fate
-      by step.End e = absurd (at_end s w h z step.End e refl)
-      by step.NoForm e =
-          (record { fate = NoForm; next = record { at = line_end s w.at; last = w.last } }, at_no_form s w h z step.NoForm e refl (line_end s w.at) refl, (fate_means (key_before s w.last) w.at NoForm (fated s w step.NoForm e), refl))
-      by step.NotAbove e =
-          let m = fate_means (key_before s w.last) w.at NoOrder (fated s w step.NotAbove e) in
-          (record { fate = NoOrder; next = record { at = line_end s w.at; last = w.last } }, at_not_above s w h z step.NotAbove e refl (line_end s w.at) refl, (m.0, m.1, refl))
-      by (step.Form l a b next) e =
-          let f = fated s w (step.Form l a b next) e in
+      by : (x : Result (Option (Form Walk)) LineFault) → x ≡ reached s w → (r : Reach) × Stepped s w r × Meant s w r r.fate
+      by (Ok None) e = absurd (at_end s w h z e)
+      by (Err step.NoForm) e =
+          (dropped_at s w NoForm, at_no_form s w h z e, (fate_means (key_before s w.last) w.at NoForm (fated s w (Err step.NoForm) e), refl))
+      by (Err step.NotAbove) e =
+          let m = fate_means (key_before s w.last) w.at NoOrder (fated s w (Err step.NotAbove) e) in
+          (dropped_at s w NoOrder, at_not_above s w h z e, (m.0, m.1, refl))
+      by (Ok (Some form)) e =
+          let f = fated s w (Ok (Some form)) e in
           let m = fate_means (key_before s w.last) w.at Kept f.0 in
-          (record { fate = Kept; next = next }, at_form s w h z (step.Form l a b next) e l a b next refl, (m.0, m.1, f.2))
+          (record { fate = Kept; next = form.next }, at_form s w h z form e, (m.0, m.1, f.2))
 
   module _ (P : Walk → Type 0) (ends : (w : Walk) → length s ≤ w.at → P w)
       (turns : (w : Walk) → w.at < length s → (r : Reach) → Stepped s w r → Meant s w r r.fate → P r.next → P w) where

@@ -3,12 +3,17 @@ use Rattle.std.specs.Prelude.{ℕ, ◌+◌, ◌≤◌, ◌<◌, min, ◌≡◌, 
 use Rattle.runs.specs.Bytes.{index_of}
 use Rattle.sheet.specs.Walks.{key_before, Standing, starts_ahead}
 use Rattle.sheet.specs.declared.walk.Walk.{Walk}
+use Rattle.rescued.specs.declared.Fate.{Fate}
 use Rattle.rescued.specs.declared.walk.Reach.{Reach}
 use Rattle.rescued.specs.Stretches.{Stretch, stretches_from}
 
 -- where the stretch that begins at `at` ends: behind its 0A, or with the input
 abbrev pub line_end : List ℕ → ℕ → ℕ
 line_end s at = min (at + index_of 0x0A (drop at s) + 1) (length s)
+
+-- a stretch that is dropped, and the walk from behind it
+abbrev pub dropped_at : List ℕ → Walk → Fate → Reach
+dropped_at s w fate = record { fate = fate; next = record { at = line_end s w.at; last = w.last } }
 
 -- the stretches from the walk's place on
 abbrev pub ahead : List ℕ → Walk → List Stretch

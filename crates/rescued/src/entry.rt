@@ -48,10 +48,7 @@ pub fn rescue_sheet(sheet: &[u8], kept: &mut [u8], report: &mut [u8]) -> Result<
         return Err(Refusal::SheetTooLong);
     }
     let sizes = put_both(sheet, &mut [], &mut []);
-    if kept.len() < sizes.kept {
-        return Err(Refusal::OutputTooShort);
-    }
-    if report.len() < sizes.report {
+    if kept.len() < sizes.kept || report.len() < sizes.report {
         return Err(Refusal::OutputTooShort);
     }
     put_both(sheet, kept, report);

@@ -3,11 +3,12 @@ ghost use Rattle.std.specs.Prelude.{◌≡◌, ◌-◌, ◌≤◌, ◌<◌, leng
 ghost use Rattle.sheet.specs.Walks.{Standing};
 ghost use Rattle.writing.specs.Writers.{with_text};
 ghost use Rattle.rescued.specs.Stretches.{cut_line, kept_text};
-ghost use Rattle.rescued.specs.Places.{line_end, Stepped};
+ghost use Rattle.rescued.specs.Places.{line_end, dropped_at, Stepped};
 
 use crate::Fate;
 use runs::find;
-use sheet::walk::{Reached, Walk};
+use sheet::line::LineFault;
+use sheet::walk::Walk;
 use writing::Writer;
 
 // A stretch that was reached: what becomes of it, and the walk from behind it, which begins where it ends.
@@ -30,43 +31,33 @@ fn line_end(s: &[u8], at: usize) -> usize
     feed
 }
 
+// The stretch at which the walk stands, where it is dropped: the last kept line stays the same.
+fn dropped(s: &[u8], walk: Walk, fate: Fate) -> Reach
+    requires { walk.at < length s.now }
+    ensures { result ≡ dropped_at s.now walk fate }
+{
+    Reach {
+        fate,
+        next: Walk {
+            at: line_end(s, walk.at),
+            last: walk.last,
+        },
+    }
+}
+
 // The stretch at which the walk stands; there is one. A form stands at the last kept line.
-#[tactic(auto, using(crate::proofs::Stretched::at_end, crate::proofs::Stretched::at_no_form, crate::proofs::Stretched::at_not_above))]
 pub(crate) fn next_stretch(s: &[u8], walk: Walk) -> Reach
     requires { (walk.at < length s.now) × Standing s.now walk.last }
     ensures { Stepped s.now walk result }
 {
-    let at = walk.at;
-    let last = walk.last;
-    let line = walk.step(s);
-    match line {
-        Reached::End => Reach {
-            fate: Fate::NoForm,
-            next: Walk { at: s.len(), last },
-        },
-        Reached::NoForm => Reach {
-            fate: Fate::NoForm,
-            next: Walk {
-                at: line_end(s, at),
-                last,
-            },
-        },
-        Reached::NotAbove => Reach {
-            fate: Fate::NoOrder,
-            next: Walk {
-                at: line_end(s, at),
-                last,
-            },
-        },
-        Reached::Form {
-            letter: _,
-            name_end: _,
-            value_end: _,
-            next,
-        } => Reach {
+    match walk.step(s) {
+        Ok(Some(form)) => Reach {
             fate: Fate::Kept,
-            next,
+            next: form.next,
         },
+        Ok(None) => dropped(s, walk, Fate::NoForm),
+        Err(LineFault::NoForm) => dropped(s, walk, Fate::NoForm),
+        Err(LineFault::NotAbove) => dropped(s, walk, Fate::NoOrder),
     }
 }
 

@@ -3,6 +3,7 @@
 use Rattle.std.specs.Prelude.{Option, Some, None}
 use Rattle.std.specs.List.{position, position_or_len}
 use Rattle.std.specs.Option.{unwrap_or}
+use Rattle.std.specs.Bool.{then_some}
 use Prim.Native.Nat.{ℕ, zero, suc, ◌+◌, ◌-◌, ◌<◌, ◌≤◌}
 use native.Mathlib.Omega.{arith}
 use native.Mathlib.Numerals.{add-one}
@@ -20,6 +21,7 @@ use Rattle.text.proofs.Ranges.{inside}
 use Rattle.sheet.specs.Limits.{name_limit}
 use Rattle.sheet.specs.Forms.{front, is_name}
 use Rattle.sheet.specs.Passing.{Three, Passed}
+use Rattle.sheet.specs.Steps.{name_read}
 use borrow.Author.Tests.{lt-leb, ne_eqb, ltb-false}
 
 -- a run's first byte, forbidden or not
@@ -121,6 +123,15 @@ module _ (s : List ℕ) (i : ℕ) where
   read_done from o f z n q =
       let l : length (front (drop from s)) ≡ i - from = front_length (drop from s) ∙ omega arith in
       rw (l, front-plain (drop from s), q, z) (sym (and-true _))
+
+-- the end of a name, by whether the bytes that were read are one
+pub name_told : (s : List ℕ) (from e : ℕ) {b : Bool} → e ≡ from + name_run (drop from s) → b ≡ is_name (front (drop from s)) → then_some b e ≡ name_read s from
+unfolding name_read
+name_told s from e {b} p q = rw (q, p) (by (is_name (front (drop from s))))
+  where
+    by : (c : Bool) → then_some c (from + name_run (drop from s)) ≡ pick c (Some (from + name_run (drop from s))) None
+    by true = refl
+    by false = refl
 
 -- a byte from 80 on may stand in a name
 high-plain : (b : ℕ) → 0x80 ≤ b → forbidden b ≡ false

@@ -1,4 +1,5 @@
 -- What the head of a form tells. The proof of the reader's step cites these. Assumes nothing.
+use Rattle.std.specs.Prelude.{Option, Some, None}
 use Prim.Native.Nat.{ℕ, ◌≤◌}
 use native.Mathlib.Omega.{arith}
 use mathlib.Core.Path.{◌≡◌, refl, sym, ap, subst}
@@ -25,16 +26,16 @@ module _ (t : List ℕ) (l : ℕ) (h : begins_with (head_with l) t ≡ true) whe
   head-fits = let n : length t ≡ length (head_with l ++ drop 3 t) = ap length split in omega arith
 
 -- the letter that `head_of` gives, where it gives one, is that of the head
-pub headed : (t : List ℕ) (l : ℕ) → head_of t ≡ l → (l ≡ 0 → ⊥) → begins_with (head_with l) t ≡ true
+pub headed : (t : List ℕ) (l : ℕ) → head_of t ≡ Some l → begins_with (head_with l) t ≡ true
 unfolding head_of
 headed t l = by (begins_with (head_with 0x77) t) (begins_with (head_with 0x6C) t) (begins_with (head_with 0x6B) t) refl refl refl
   where
     by : (w k j : Bool) → begins_with (head_with 0x77) t ≡ w → begins_with (head_with 0x6C) t ≡ k → begins_with (head_with 0x6B) t ≡ j
-        → pick w 0x77 (pick k 0x6C (pick j 0x6B 0)) ≡ l → (l ≡ 0 → ⊥) → begins_with (head_with l) t ≡ true
-    by true k j p q r e n = subst (λ (x : ℕ). begins_with (head_with x) t ≡ true) e p
-    by false true j p q r e n = subst (λ (x : ℕ). begins_with (head_with x) t ≡ true) e q
-    by false false true p q r e n = subst (λ (x : ℕ). begins_with (head_with x) t ≡ true) e r
-    by false false false p q r e n = absurd (n (sym e))
+        → pick w (Some 0x77) (pick k (Some 0x6C) (pick j (Some 0x6B) None)) ≡ Some l → begins_with (head_with l) t ≡ true
+    by true k j p q r e = let n : 0x77 ≡ l = cc in subst (λ (x : ℕ). begins_with (head_with x) t ≡ true) n p
+    by false true j p q r e = let n : 0x6C ≡ l = cc in subst (λ (x : ℕ). begins_with (head_with x) t ≡ true) n q
+    by false false true p q r e = let n : 0x6B ≡ l = cc in subst (λ (x : ℕ). begins_with (head_with x) t ≡ true) n r
+    by false false false p q r e = let z : ◌≡◌ {A = ℕ} 0 1 = cc in absurd (omega arith)
 
 -- a letter other than k, l and w means nothing
 strange_letter : (e : Entry) → eqb e.letter 0x6B ≡ false → eqb e.letter 0x6C ≡ false → eqb e.letter 0x77 ≡ false → is_meant e ≡ false
@@ -46,7 +47,7 @@ unfolding entry_of
 second t = refl
 
 -- where no head stands, no form does
-pub headless : (t : List ℕ) → head_of t ≡ 0 → is_form t ≡ false
+pub headless : (t : List ℕ) → head_of t ≡ None → is_form t ≡ false
 unfolding head_of
 headless t = by (begins_with (head_with 0x77) t) (begins_with (head_with 0x6C) t) (begins_with (head_with 0x6B) t) refl refl refl
   where
@@ -64,8 +65,8 @@ headless t = by (begins_with (head_with 0x77) t) (begins_with (head_with 0x6C) t
     strange false false false a b c p q r = unmeant t (strange_letter (entry_of t) (same 0x6B a) (same 0x6C b) (same 0x77 c))
 
     by : (w k j : Bool) → begins_with (head_with 0x77) t ≡ w → begins_with (head_with 0x6C) t ≡ k → begins_with (head_with 0x6B) t ≡ j
-        → ◌≡◌ {A = ℕ} (pick w 0x77 (pick k 0x6C (pick j 0x6B 0))) 0 → is_form t ≡ false
-    by true k j p q r e = absurd (omega arith)
-    by false true j p q r e = absurd (omega arith)
-    by false false true p q r e = absurd (omega arith)
+        → ◌≡◌ {A = Option ℕ} (pick w (Some 0x77) (pick k (Some 0x6C) (pick j (Some 0x6B) None))) None → is_form t ≡ false
+    by true k j p q r e = let z : ◌≡◌ {A = ℕ} 0 1 = cc in absurd (omega arith)
+    by false true j p q r e = let z : ◌≡◌ {A = ℕ} 0 1 = cc in absurd (omega arith)
+    by false false true p q r e = let z : ◌≡◌ {A = ℕ} 0 1 = cc in absurd (omega arith)
     by false false false p q r e = strange _ _ _ refl refl refl p q r

@@ -1,13 +1,14 @@
 -- The needs of letters, case by case, and what is left once letters are read. The proofs of `closes_at` and `are_letters` cite these.
 -- Assumes nothing.
-use Prim.Native.Nat.{ℕ, suc, ◌-◌}
+use Prim.Native.Nat.{ℕ, suc, ◌-◌, ◌≤◌}
 use native.Mathlib.Omega.{arith}
 use mathlib.Core.Path.{◌≡◌, refl, sym, ap, ◌∙◌}
-use mathlib.Core.Bool.{Bool, true, false, not, ◌&&◌, ◌||◌, and-true, and-false}
+use mathlib.Core.Bool.{Bool, true, false, not, ◌&&◌, ◌||◌, and-false}
 use mathlib.Core.List.{List, [], ◌∷◌}
 use lib.ListN.{length, drop, length-drop}
-use lib.Dec.{leb, eqb}
-use borrow.Author.Tests.{ne_eqb, lt-leb}
+use lib.Dec.{ltb, eqb}
+use borrow.Author.Tests.{ne_eqb}
+use Rattle.std.specs.Int.{from_bool}
 use Rattle.runs.specs.Runs.{same_text, pick}
 use Rattle.sheet.specs.Letters.{has, past, after_flags, tag_of, is_tagged, letters_of, well_kept, closes, is_letters}
 
@@ -15,31 +16,30 @@ use Rattle.sheet.specs.Letters.{has, past, after_flags, tag_of, is_tagged, lette
 abbrev kept : Bool → Bool → Bool → Bool → Bool → Bool → Bool
 kept w h v p e t = (w || h) && (h || not (v || p || e || t)) && (p || not e)
 
-kept_pronoun : (w v e t : Bool) → kept w true v true e t ≡ true
-kept_pronoun true v e t = refl
-kept_pronoun false v e t = refl
-
-kept-head : (w v e t : Bool) → kept w true v false e t ≡ not e
-kept-head true v e t = refl
-kept-head false v e t = refl
+kept_headed : (w v p e t : Bool) → kept w true v p e t ≡ (p || not e)
+kept_headed true v p e t = refl
+kept_headed false v p e t = refl
 
 -- a run is empty where its length is 0, and only there
 none_left : (x : List ℕ) → eqb (length x) 0 ≡ same_text x []
 none_left [] = refl
 none_left (b ∷ x) = ne_eqb (suc (length x)) 0 (λ e. omega arith)
 
-none-behind : (x : List ℕ) → leb (length x) 1 ≡ same_text (drop 1 x) []
-none-behind [] = refl
-none-behind (b ∷ []) = refl
-none-behind (b ∷ c ∷ x) = lt-leb (suc (suc (length x))) 1 (omega arith)
+-- where a tag stands, it is all where there is one letter
+tagged_one : (x : List ℕ) → is_tagged (tag_of x) ≡ true → eqb (length x) 1 ≡ same_text (pick (is_tagged (tag_of x)) (drop 1 x) x) []
+unfolding tag_of
+tagged_one [] t = let z : ◌≡◌ {A = ℕ} 0 1 = cc in absurd (omega arith)
+tagged_one (b ∷ []) t = rw t
+tagged_one (b ∷ c ∷ x) t = rw t (ne_eqb (suc (suc (length x))) 1 (λ e. omega arith))
 
--- what is left at the place i, where a tag stands and where none does
-module _ (v : List ℕ) (i : ℕ) where
-  pub closes-tagged : is_tagged (tag_of (drop i v)) ≡ true → leb (length v - i) 1 ≡ closes (drop i v)
-  closes-tagged t = ap (λ (n : ℕ). leb n 1) (sym (length-drop i v)) ∙ none-behind (drop i v) ∙ rw t
+-- what is left at the place i: one letter where a tag stands, none where none does
+pub closes_by : (v : List ℕ) (i n : ℕ) (t : Bool) → t ≡ is_tagged (tag_of (drop i v)) → n ≡ from_bool t → eqb (length v - i) n ≡ closes (drop i v)
+closes_by v i n true e f = rw (f, sym (length-drop i v)) (tagged_one (drop i v) (sym e))
+closes_by v i n false e f = rw (f, sym (length-drop i v)) (none_left (drop i v) ∙ rw (sym e))
 
-  pub closes_untagged : is_tagged (tag_of (drop i v)) ≡ false → eqb (length v - i) 0 ≡ closes (drop i v)
-  closes_untagged t = ap (λ (n : ℕ). eqb n 0) (sym (length-drop i v)) ∙ none_left (drop i v) ∙ rw t
+-- all has been read where the place is the end
+pub all_read : (v : List ℕ) (i : ℕ) → i ≤ length v → eqb i (length v) ≡ eqb (length v - i) 0
+all_read v i h = grind arith
 
 -- the letters after w and h, and what is left of them
 abbrev after_head : List ℕ → List ℕ
@@ -95,28 +95,16 @@ module _ (v : List ℕ) (h : has 0x68 (past 0x77 v) ≡ false) where
       ∙ nothing_else x)
 
 -- with h: e needs p, and nothing is left but a tag
-module _ (v : List ℕ) (h : has 0x68 (past 0x77 v) ≡ true) where
-  abbrev x : List ℕ
-  x = past 0x68 (past 0x77 v)
+pub with_head : (v : List ℕ) → has 0x68 (past 0x77 v) ≡ true → let x = past 0x68 (past 0x77 v) in
+    is_letters v ≡ (closes (after_flags v) && (has 0x70 (past 0x76 x) || not (has 0x65 (past 0x70 (past 0x76 x)))))
+with_head v h =
+    let x = past 0x68 (past 0x77 v) in
+    letters-kept v ∙ ap (λ (y : Bool). closes (after_flags v) && kept_after (has 0x77 v) y x) h
+    ∙ ap (λ (y : Bool). closes (after_flags v) && y) (kept_headed (has 0x77 v) (has 0x76 x) (has 0x70 (past 0x76 x)) (has 0x65 (past 0x70 (past 0x76 x))) (is_tagged (tag_of (after_head x))))
 
-  headed : is_letters v ≡ (closes (after_flags v) && kept_after (has 0x77 v) true x)
-  headed = letters-kept v ∙ ap (λ (y : Bool). closes (after_flags v) && kept_after (has 0x77 v) y x) h
+-- e does not stand where its place is where p's is
+pub not_past : (a b : ℕ) → a ≤ b → eqb a b ≡ not (ltb a b)
+not_past a b h = grind arith
 
-  pub with_pronoun : has 0x70 (past 0x76 x) ≡ true → closes (after_flags v) ≡ is_letters v
-  with_pronoun p =
-      sym (headed
-      ∙ ap (λ (y : Bool). closes (after_flags v) && kept (has 0x77 v) true (has 0x76 x) y (has 0x65 (past 0x70 (past 0x76 x))) (is_tagged (tag_of (after_head x)))) p
-      ∙ ap (λ (y : Bool). closes (after_flags v) && y) (kept_pronoun (has 0x77 v) (has 0x76 x) (has 0x65 (past 0x70 (past 0x76 x))) (is_tagged (tag_of (after_head x)))) ∙ and-true _)
-
-  module _ (p : has 0x70 (past 0x76 x) ≡ false) where
-    plain : is_letters v ≡ (closes (after_flags v) && not (has 0x65 (past 0x70 (past 0x76 x))))
-    plain =
-        headed
-        ∙ ap (λ (y : Bool). closes (after_flags v) && kept (has 0x77 v) true (has 0x76 x) y (has 0x65 (past 0x70 (past 0x76 x))) (is_tagged (tag_of (after_head x)))) p
-        ∙ ap (λ (y : Bool). closes (after_flags v) && y) (kept-head (has 0x77 v) (has 0x76 x) (has 0x65 (past 0x70 (past 0x76 x))) (is_tagged (tag_of (after_head x))))
-
-    pub spelled-alone : has 0x65 (past 0x70 (past 0x76 x)) ≡ true → false ≡ is_letters v
-    spelled-alone e = sym (plain ∙ lost (closes (after_flags v)) _ (ap not e))
-
-    pub without-both : has 0x65 (past 0x70 (past 0x76 x)) ≡ false → closes (after_flags v) ≡ is_letters v
-    without-both e = sym (plain ∙ ap (λ (y : Bool). closes (after_flags v) && not y) e ∙ and-true _)
+pub without_p : (c p e a : Bool) → c ≡ true → p ≡ false → e ≡ a → (c && (p || not e)) ≡ not a
+without_p c p e a h i j = rw (h, i, j)

@@ -13,9 +13,12 @@ use Rattle.runs.specs.Runs.{pick}
 use Rattle.text.specs.Names.{forbidden, holds_forbidden}
 use Rattle.sheet.specs.Forms.{Entry, written, is_meant, is_form}
 use Rattle.sheet.specs.Lines.{starts_from, line_at}
-use Rattle.sheet.specs.Steps.{name_end, value_end, step_at}
-use Rattle.sheet.specs.declared.line.Line.{Line}
-use Rattle.sheet.specs.declared.line.Line.TheVariants.{Form, NoForm, End}
+use Rattle.sheet.specs.Steps.{value_end, form_at, step_at}
+use Rattle.sheet.specs.declared.line.Cursor.{Cursor}
+use Rattle.sheet.specs.declared.line.Form.{Form}
+use Rattle.sheet.specs.declared.line.LineFault.{LineFault}
+use Rattle.sheet.specs.declared.line.LineFault.TheVariants.{NoForm, NotAbove}
+use Rattle.std.specs.Prelude.{Option, Some, None, Result, Ok, Err}
 use Rattle.sheet.proofs.Forms.{written-length, form-named, form_meant, name-plain, value-plain, line-bytes}
 
 -- a byte that may stand in a name ends no line
@@ -74,18 +77,18 @@ module _ (s : List ℕ) (at : ℕ) where
       ∙ rw (r, n)
 
   -- what a step of the reader tells
-  abbrev pub Told : Line → Type 0
-  Told End = length s ≤ at
-  Told NoForm = (at < length s) × (is_form (drop at s) ≡ false)
-  Told (Form l e f next) =
-      (at < length s) × (is_form (drop at s) ≡ true) × (l ≡ (line_at s at).letter) × (e ≡ name_end s at) × (f ≡ value_end s at) × (next.at ≡ value_end s at + 3)
+  abbrev pub Told : Result (Option (Form Cursor)) LineFault → Type 0
+  Told (Ok None) = length s ≤ at
+  Told (Err NoForm) = (at < length s) × (is_form (drop at s) ≡ false)
+  Told (Err NotAbove) = ⊥
+  Told (Ok (Some form)) = (at < length s) × (is_form (drop at s) ≡ true) × (form ≡ form_at s at)
 
-  pub step_told : (line : Line) → line ≡ step_at s at → Told line
+  pub step_told : (line : Result (Option (Form Cursor)) LineFault) → line ≡ step_at s at → Told line
   unfolding step_at
   step_told line q = subst Told (sym q) (by (leb (length s) at) (is_form (drop at s)) refl refl)
     where
       by : (b c : Bool) → leb (length s) at ≡ b → is_form (drop at s) ≡ c
-          → Told (pick b End (pick c (Form (line_at s at).letter (name_end s at) (value_end s at) (record { at = value_end s at + 3 })) NoForm))
+          → Told (pick b (Ok None) (pick c (Ok (Some (form_at s at))) (Err NoForm)))
       by true c p r = leb-true _ _ p
-      by false true p r = (leb-false _ _ p, r, refl, refl, refl, refl)
+      by false true p r = (leb-false _ _ p, r, refl)
       by false false p r = (leb-false _ _ p, r)

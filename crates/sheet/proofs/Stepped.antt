@@ -2,27 +2,30 @@
 -- Assumes nothing.
 use Prim.Native.Nat.{ℕ, ◌+◌, ◌-◌, ◌<◌, ◌≤◌}
 use native.Mathlib.Omega.{arith}
-use mathlib.Core.Path.{◌≡◌, sym, ap, ◌∙◌}
-use mathlib.Core.Bool.{true, false}
+use mathlib.Core.Path.{◌≡◌, refl, sym, ap, subst, ◌∙◌}
+use mathlib.Core.Bool.{Bool, true, false}
 use mathlib.Core.List.{List}
-use lib.ListN.{length, take, drop}
+use lib.ListN.{length, take, drop, length-drop}
 use lib.Seq.{drop-drop}
 use borrow.Author.Tests.{le-leb, lt-leb}
-use Rattle.runs.specs.Runs.{begins_with}
+use Rattle.runs.specs.Runs.{pick, begins_with}
 use Rattle.text.specs.Names.{name_run}
 use Rattle.sheet.specs.Forms.{Entry, front, entry_of, is_form, is_name}
 use Rattle.sheet.specs.Lines.{line_at}
-use Rattle.sheet.specs.Steps.{head_with, name_end, value_end, step_at}
-use Rattle.sheet.specs.declared.line.Line.TheVariants.{Form, NoForm, End}
-use Rattle.sheet.proofs.Fronts.{front_length}
+use Rattle.sheet.specs.Steps.{head_with, name_end, value_end, name_read, step_at}
+use Rattle.sheet.specs.declared.line.LineFault.TheVariants.{NoForm}
+use Rattle.std.specs.Prelude.{Option, Some, None, Ok, Err}
+use Rattle.std.specs.Option.{ok_or}
+use Rattle.sheet.specs.declared.line.LineFault.{LineFault}
+use Rattle.sheet.proofs.Fronts.{front_length, run_inside}
 use Rattle.sheet.proofs.Heads.{letter_is}
 
 module _ (s : List ℕ) (at : ℕ) where
-  pub at_end : length s ≤ at → End ≡ step_at s at
+  pub at_end : length s ≤ at → Ok None ≡ step_at s at
   unfolding step_at
   at_end h = rw (le-leb _ _ h)
 
-  pub at_no_form : at < length s → is_form (drop at s) ≡ false → NoForm ≡ step_at s at
+  pub at_no_form : at < length s → is_form (drop at s) ≡ false → Err NoForm ≡ step_at s at
   unfolding step_at
   at_no_form h e = rw (lt-leb _ _ h, e)
 
@@ -65,7 +68,7 @@ module _ (s : List ℕ) (at : ℕ) where
         let m = name_end_is in
         omega arith
 
-    pub at_form : (l : ℕ) → (line_at s at).letter ≡ l → at < length s → is_form (drop at s) ≡ true → Form l e f (record { at = f + 3 }) ≡ step_at s at
+    pub at_form : (l : ℕ) → (line_at s at).letter ≡ l → at < length s → is_form (drop at s) ≡ true → Ok (Some (record { letter = l; name_end = e; value_end = f; next = record { at = f + 3 } })) ≡ step_at s at
     unfolding step_at
     at_form l p h q = rw (lt-leb _ _ h, q, sym value_end_is, sym name_end_is, sym p)
 
@@ -76,6 +79,28 @@ module _ (s : List ℕ) (at : ℕ) where
   pub letter_at : (l : ℕ) → begins_with (head_with l) (drop at s) ≡ true → (line_at s at).letter ≡ l
   unfolding entry_of
   letter_at l h = letter_is (drop at s) l h
+
+-- what the name's end tells: that it is where the bytes stop that a name may hold, inside the sheet; or that there is no name
+abbrev pub Ending : List ℕ → ℕ → Option ℕ → Type 0
+Ending s at None = is_name (front (drop at s)) ≡ false
+Ending s at (Some e) = (e ≡ at + name_run (drop at s)) × (e ≤ length s) × (is_name (front (drop at s)) ≡ true)
+
+pub ending : (s : List ℕ) (at : ℕ) → at ≤ length s → (r : Option ℕ) → r ≡ name_read s at → Ending s at r
+unfolding name_read
+ending s at h r q = subst (Ending s at) (sym q) (by (is_name (front (drop at s))) refl)
+  where
+    by : (b : Bool) → is_name (front (drop at s)) ≡ b → Ending s at (pick b (Some (at + name_run (drop at s))) None)
+    by true e = (refl, (let n = run_inside (drop at s) in omega (arith, length-drop at s)), e)
+    by false e = e
+
+-- what `?` hands on of an option that is a fault where it is none
+pub handed : {A : Type 0} (o : Option A) (x : A) → ok_or o NoForm ≡ Ok x → o ≡ Some x
+handed (Some y) x e = cc
+handed None x e = let z : ◌≡◌ {A = ℕ} 0 1 = cc in absurd (omega arith)
+
+pub unhanded : {A : Type 0} (o : Option A) (fault : LineFault) → ok_or o NoForm ≡ Err fault → (o ≡ None) × (fault ≡ NoForm)
+unhanded (Some y) fault e = let z : ◌≡◌ {A = ℕ} 0 1 = cc in absurd (omega arith)
+unhanded None fault e = (refl, cc)
 
 -- an entry is its parts
 pub same_entry : (e : Entry) (l : ℕ) (n v : List ℕ) → e.letter ≡ l → e.name ≡ n → e.value ≡ v → e ≡ record { letter = l; name = n; value = v }

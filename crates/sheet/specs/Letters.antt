@@ -1,6 +1,6 @@
 -- The letters of a `w` line (document 01, "The sheet"), read in their order: w contained, h headword, v verb, p pronoun,
 -- e its entry spells [root+ई], then one of t b d a, the origin tag. Assumes nothing.
-use Rattle.std.specs.Prelude.{ℕ, Bool, true, false, not, ◌&&◌, ◌||◌, List, [], ◌∷◌, drop, Option, Some, None, is_some}
+use Rattle.std.specs.Prelude.{ℕ, Bool, false, not, ◌&&◌, ◌||◌, List, [], ◌∷◌, drop, Option, Some, None, is_some}
 use Rattle.runs.specs.Runs.{pick, begins_with, same_text}
 use Rattle.tables.specs.declared.origins.Origin.{Origin}
 use Rattle.tables.specs.declared.origins.Origin.TheVariants.{Tatsam, Tadbhav, Deshaj, Aagantuk}

@@ -6,6 +6,8 @@ use Rattle.refusals.specs.declared.Refusal.{Refusal}
 use Rattle.refusals.specs.declared.Refusal.TheVariants.{SheetTooLong, SheetNoForm, SheetNotAbove}
 use Rattle.sheet.specs.Limits.{sheet_limit}
 use Rattle.sheet.specs.Forms.{Entry, entry_of, written, is_form, key}
+use Rattle.sheet.specs.declared.line.LineFault.{LineFault}
+use Rattle.sheet.specs.declared.line.LineFault.TheVariants as line
 use Rattle.sheet.specs.declared.check.SheetFault.{SheetFault}
 use Rattle.sheet.specs.declared.check.SheetFault.TheVariants.{TooLong, NoForm, NotAbove}
 
@@ -14,6 +16,11 @@ abbrev pub refusal_of : SheetFault → Refusal
 refusal_of TooLong = SheetTooLong
 refusal_of (NoForm at) = SheetNoForm at
 refusal_of (NotAbove at) = SheetNotAbove at
+
+-- the sheet's fault where the line at `at` is refused
+abbrev pub fault_at : LineFault → ℕ → SheetFault
+fault_at line.NoForm at = NoForm at
+fault_at line.NotAbove at = NotAbove at
 
 -- the place n where a line begins, before the places of the lines that follow
 abbrev pub lead : Bool → ℕ → List ℕ → List ℕ

@@ -1,9 +1,10 @@
 // Which sheets are accepted.
 ghost use Rattle.std.specs.Prelude.{◌≡◌};
-ghost use Rattle.sheet.specs.Lines.{refusal_of, sheet_check};
+ghost use Rattle.sheet.specs.Lines.{refusal_of, fault_at, sheet_check};
 
 use crate::limits::SHEET_BYTES;
-use crate::walk::{Reached, Walk};
+use crate::line::LineFault;
+use crate::walk::Walk;
 use refusals::Refusal;
 
 // Why a sheet is refused: over 65,536 bytes (4), or by its first faulty line, with that line's first byte: no form (5), or a form not above
@@ -13,6 +14,18 @@ pub enum SheetFault {
     TooLong,
     NoForm(usize),
     NotAbove(usize),
+}
+
+impl LineFault {
+    // The sheet's fault where the line that begins at `at` is refused.
+    pub fn at(self, at: usize) -> SheetFault
+        ensures { result ≡ fault_at self at }
+    {
+        match self {
+            LineFault::NoForm => SheetFault::NoForm(at),
+            LineFault::NotAbove => SheetFault::NotAbove(at),
+        }
+    }
 }
 
 impl From<SheetFault> for Refusal {
@@ -35,27 +48,8 @@ pub fn check_sheet(s: &[u8]) -> Result<(), SheetFault>
         return Err(SheetFault::TooLong);
     }
     let mut walk = Walk { at: 0, last: None };
-    loop {
-        let at = walk.at;
-        let line = walk.step(s);
-        match line {
-            Reached::End => {
-                return Ok(());
-            }
-            Reached::NoForm => {
-                return Err(SheetFault::NoForm(at));
-            }
-            Reached::NotAbove => {
-                return Err(SheetFault::NotAbove(at));
-            }
-            Reached::Form {
-                letter: _,
-                name_end: _,
-                value_end: _,
-                next,
-            } => {
-                walk = next;
-            }
-        }
+    while let Some(form) = walk.step(s).map_err(|fault| fault.at(walk.at))? {
+        walk = form.next;
     }
+    Ok(())
 }

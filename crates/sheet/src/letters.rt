@@ -64,10 +64,7 @@ fn closes_at(v: &[u8], i: usize) -> bool
     requires { i ≤ length v.now }
     ensures { result ≡ closes (drop i v.now) }
 {
-    if tag_at(v, i).is_some() {
-        return v.len() - i <= 1;
-    }
-    v.len() - i == 0
+    v.len() - i == usize::from(tag_at(v, i).is_some())
 }
 
 // Whether v is a good run of letters: each at most once and in its order, their needs met, nothing besides. Without h, w stands alone;
@@ -77,20 +74,12 @@ pub fn are_letters(v: &[u8]) -> bool
 {
     let w = skip(v, 0, b'w');
     let h = skip(v, w, b'h');
-    if h <= w {
-        if w == 0 {
-            return false;
-        }
-        return v.len() - w == 0;
+    if h == w {
+        return 0 < w && w == v.len();
     }
     let past_v = skip(v, h, b'v');
     let past_p = skip(v, past_v, b'p');
     let past_e = skip(v, past_p, b'e');
-    if past_v < past_p {
-        return closes_at(v, past_e);
-    }
-    if past_p < past_e {
-        return false;
-    }
-    closes_at(v, past_e)
+    let closed = closes_at(v, past_e);
+    closed && (past_v < past_p || past_p == past_e)
 }

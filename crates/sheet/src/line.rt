@@ -9,20 +9,20 @@ use crate::letters::are_letters;
 use crate::name::{is_name, read_name, run_end};
 use runs::{begins_with, ends_with, same};
 
-// The first letter of the form whose head stands at the front of t, 0 where none does.
-fn head_at(t: &[u8]) -> u8
+// The first letter of the form whose head stands at the front of t, if one does.
+fn head_at(t: &[u8]) -> Option<u8>
     ensures { result ≡ head_of t.now }
 {
     if begins_with(t, b"(w ") {
-        return b'w';
+        return Some(b'w');
     }
     if begins_with(t, b"(l ") {
-        return b'l';
+        return Some(b'l');
     }
     if begins_with(t, b"(k ") {
-        return b'k';
+        return Some(b'k');
     }
-    0
+    None
 }
 
 // Whether a value is a kind: `post` or `comp`.
@@ -60,56 +60,51 @@ pub struct Cursor {
     pub at: usize,
 }
 
-// What stands at a cursor: a form, with its first letter (k, l or w), the ends of its first name and of its value and the next line's
-// cursor; a line that is no form; or the sheet's end.
+// A form that was read: its first letter (k, l or w), the ends of its first name and of its value, and the place P of the next line.
 #[derive(Clone, Copy)]
-pub enum Line {
-    Form {
-        letter: u8,
-        name_end: usize,
-        value_end: usize,
-        next: Cursor,
-    },
+pub struct Form<P> {
+    pub letter: u8,
+    pub name_end: usize,
+    pub value_end: usize,
+    pub next: P,
+}
+
+// Why a line is refused: no form, or a form not above the one before.
+#[derive(Clone, Copy, Debug, PartialEq, Eq)]
+pub enum LineFault {
     NoForm,
-    End,
+    NotAbove,
 }
 
 impl Cursor {
-    // The line that begins at the cursor.
-    pub fn step(self, s: &[u8]) -> Line
+    // The form that begins at the cursor, none at the sheet's end; or that the line is no form.
+    pub fn step(self, s: &[u8]) -> Result<Option<Form<Cursor>>, LineFault>
         ensures { result ≡ step_at s.now self.at }
     {
         let at = self.at;
         if s.len() <= at {
-            return Line::End;
+            return Ok(None);
         }
-        let letter = head_at(&s[at..]);
-        if letter == 0 {
-            return Line::NoForm;
-        }
+        let letter = head_at(&s[at..]).ok_or(LineFault::NoForm)?;
         let from = at + 3;
-        let name = read_name(s, from);
-        if !name.good {
-            return Line::NoForm;
-        }
-        let name_end = name.end;
+        let name_end = read_name(s, from).ok_or(LineFault::NoForm)?;
         if !begins_with(&s[name_end..], b" (") {
-            return Line::NoForm;
+            return Err(LineFault::NoForm);
         }
         let value_from = name_end + 2;
         let value_end = run_end(s, value_from);
         if !begins_with(&s[value_end..], b"))\n") {
-            return Line::NoForm;
+            return Err(LineFault::NoForm);
         }
         if !is_meant(letter, &s[from..name_end], &s[value_from..value_end]) {
-            return Line::NoForm;
+            return Err(LineFault::NoForm);
         }
         let end = value_end + 3;
-        Line::Form {
+        Ok(Some(Form {
             letter,
             name_end,
             value_end,
             next: Cursor { at: end },
-        }
+        }))
     }
 }

@@ -4,19 +4,13 @@ ghost use Rattle.text.specs.Utf8.{whole};
 ghost use Rattle.text.specs.Owes.{owed_of};
 ghost use Rattle.text.specs.Names.{name_run, holds_forbidden};
 ghost use Rattle.sheet.specs.Limits.{name_limit};
-ghost use Rattle.sheet.specs.Forms.{front, is_name};
+ghost use Rattle.sheet.specs.Forms.{is_name};
 ghost use Rattle.sheet.specs.Passing.{Three, Passed};
+ghost use Rattle.sheet.specs.Steps.{name_read};
 
 use crate::limits::NAME_BYTES;
 use text::names::is_forbidden;
 use text::utf8::{State, is_utf8, is_whole, next};
-
-// The bytes up to the first one that no name holds: where they end, and whether they are a name.
-#[derive(Clone, Copy)]
-pub struct NameRead {
-    pub end: usize,
-    pub good: bool,
-}
 
 // Whether so many bytes, read up to this state, are a name: 1 to 210 of them, whole UTF-8.
 fn named(len: usize, state: State) -> bool
@@ -59,24 +53,18 @@ fn skip_threes(s: &[u8], from: usize) -> usize
     s.len() - rest.len()
 }
 
-// Reads the name that begins at `from`.
-pub(crate) fn read_name(s: &[u8], from: usize) -> NameRead
+// The end of the name that begins at `from`, none where the bytes up to the first one that no name holds are no name.
+pub(crate) fn read_name(s: &[u8], from: usize) -> Option<usize>
     requires { from ≤ length s.now }
-    ensures { (result.end ≡ from + name_run (drop from s.now)) × (result.end ≤ length s.now) × (result.good ≡ is_name (front (drop from s.now))) }
+    ensures { result ≡ name_read s.now from }
 {
     let mut state = State::Nothing;
     for i in skip_threes(s, from)..s.len() {
         let b = s[i];
         if is_forbidden(b) {
-            return NameRead {
-                end: i,
-                good: named(i - from, state),
-            };
+            return named(i - from, state).then_some(i);
         }
         state = next(state, b);
     }
-    NameRead {
-        end: s.len(),
-        good: named(s.len() - from, state),
-    }
+    named(s.len() - from, state).then_some(s.len())
 }

@@ -6,7 +6,7 @@ ghost use Rattle.sheet.specs.Forms.{key_of};
 ghost use Rattle.sheet.specs.Walks.{key_before, Standing, reached};
 
 use crate::form::FormAt;
-use crate::line::{Cursor, Line};
+use crate::line::{Cursor, Form, LineFault};
 use std::cmp::Ordering;
 
 // A place in the sheet at which a line begins, and the last line that the next one must be above.
@@ -14,21 +14,6 @@ use std::cmp::Ordering;
 pub struct Walk {
     pub at: usize,
     pub last: Option<usize>,
-}
-
-// What a step reaches: a form above the last, with its first letter, the ends of its name and of its value, and the walk from behind it; a
-// form that is not above the last; a line that is no form; or the sheet's end.
-#[derive(Clone, Copy)]
-pub enum Reached {
-    Form {
-        letter: u8,
-        name_end: usize,
-        value_end: usize,
-        next: Walk,
-    },
-    NotAbove,
-    NoForm,
-    End,
 }
 
 // Whether the line before, if there is one, stands below the key of this letter and name.
@@ -43,38 +28,28 @@ fn is_above(s: &[u8], last: Option<usize>, letter: u8, name: &[u8]) -> bool
 }
 
 impl Walk {
-    // The line at which the walk stands. A form stands at the last.
-    pub fn step(self, s: &[u8]) -> Reached
+    // The form at which the walk stands, with the walk from behind it, none at the sheet's end; or why the line is refused. A form stands at
+    // the last.
+    pub fn step(self, s: &[u8]) -> Result<Option<Form<Walk>>, LineFault>
         requires { Standing s.now self.last }
         ensures { result ≡ reached s.now self }
     {
         let at = self.at;
-        let last = self.last;
-        let cursor = Cursor { at };
-        let line = cursor.step(s);
-        match line {
-            Line::End => Reached::End,
-            Line::NoForm => Reached::NoForm,
-            Line::Form {
-                letter,
-                name_end,
-                value_end,
-                next,
-            } => {
-                let from = at + 3;
-                if !is_above(s, last, letter, &s[from..name_end]) {
-                    return Reached::NotAbove;
-                }
-                Reached::Form {
-                    letter,
-                    name_end,
-                    value_end,
-                    next: Walk {
-                        at: next.at,
-                        last: Some(at),
-                    },
-                }
-            }
+        let Some(form) = (Cursor { at }).step(s)? else {
+            return Ok(None);
+        };
+        let from = at + 3;
+        if !is_above(s, self.last, form.letter, &s[from..form.name_end]) {
+            return Err(LineFault::NotAbove);
         }
+        Ok(Some(Form {
+            letter: form.letter,
+            name_end: form.name_end,
+            value_end: form.value_end,
+            next: Walk {
+                at: form.next.at,
+                last: Some(at),
+            },
+        }))
     }
 }

@@ -1,41 +1,36 @@
--- One turn of each loop over bytes, from the place i to i + 1, and the number of characters as a sum. The proofs of `is_utf8`,
--- `holds_forbidden` and `count` cite these. Assumes nothing.
-use Prim.Native.Nat.{ℕ, ◌+◌, ◌<◌, ◌≤◌, suc}
-use native.Mathlib.Numerals.{add-one}
+-- Bytes taken one by one: what is owed after one more, whether any is forbidden, the number of characters as a sum. The proofs of
+-- `is_utf8`, `holds_forbidden` and `count` cite these. Assumes nothing.
+use Prim.Native.Nat.{ℕ, ◌+◌, ◌≤◌, suc}
 use native.Mathlib.Omega.{arith}
 use mathlib.Core.Path.{◌≡◌, refl}
-use mathlib.Core.Bool.{Bool, true, false}
-use mathlib.Core.List.{List, [], ◌∷◌}
-use lib.ListN.{length, get_or, drop, drop_of_length-le}
-use lib.Seq.{drop-cons}
-use Rattle.std.specs.List.{sum_by}
+use mathlib.Core.Bool.{Bool, true, false, ◌||◌}
+use mathlib.Core.List.{List, [], ◌∷◌, ◌++◌}
+use lib.ListN.{length}
+use Rattle.std.specs.List.{sum_by, list_any}
 use Rattle.std.proofs.lemmas.List.Recursion.{is_sum_by}
 use Rattle.runs.specs.Runs.{pick}
 use Rattle.text.specs.Utf8.{Owed, after, run, within, tail}
 use Rattle.text.specs.Characters.{opens, chars}
 use Rattle.text.specs.Names.{forbidden, holds_forbidden}
 
-module _ (s : List ℕ) (i : ℕ) (h : i < length s) where
-  pub run_next : (o o' : Owed) → o' ≡ after o (get_or s i 0) → run o (drop i s) ≡ run o' (drop (i + 1) s)
-  unfolding run
-  run_next o o' e = rw (add-one, drop-cons s i 0, e)
+pub run_none : (o : Owed) → run o [] ≡ o
+unfolding run
+run_none o = refl
 
-  pub forbidden_here : forbidden (get_or s i 0) ≡ true → holds_forbidden (drop i s) ≡ true
-  unfolding holds_forbidden
-  forbidden_here e = rw (drop-cons s i 0, e)
+-- one more byte
+pub run_more : (o : Owed) (s : List ℕ) (b : ℕ) → run o (s ++ (b ∷ [])) ≡ after (run o s) b
+unfolding run
+run_more o [] b = refl
+run_more o (c ∷ s) b = run_more (after o c) s b
 
-  pub forbidden_next : forbidden (get_or s i 0) ≡ false → holds_forbidden (drop i s) ≡ holds_forbidden (drop (i + 1) s)
-  unfolding holds_forbidden
-  forbidden_next e = rw (add-one, drop-cons s i 0, e)
-
-module _ (s : List ℕ) (i : ℕ) (h : length s ≤ i) where
-  pub run_end : (o : Owed) → run o (drop i s) ≡ o
-  unfolding run
-  run_end o = rw (drop_of_length-le s h)
-
-  pub forbidden_end : holds_forbidden (drop i s) ≡ false
-  unfolding holds_forbidden
-  forbidden_end = rw (drop_of_length-le s h)
+pub forbidden_any : (s : List ℕ) → holds_forbidden s ≡ list_any forbidden s
+unfolding holds_forbidden
+forbidden_any [] = refl
+forbidden_any (b ∷ s) = by (forbidden b) (forbidden_any s)
+  where
+    by : (x : Bool) → holds_forbidden s ≡ list_any forbidden s → pick x true (holds_forbidden s) ≡ (x || list_any forbidden s)
+    by true h = refl
+    by false h = h
 
 pub chars_sum : (s : List ℕ) → chars s ≡ sum_by opens s
 unfolding chars

@@ -11,14 +11,8 @@ pub fn is_forbidden(b: u8) -> bool
 }
 
 // Whether s holds such a byte.
-#[tactic(auto, using(crate::proofs::Scan::forbidden_here, crate::proofs::Scan::forbidden_next, crate::proofs::Scan::forbidden_end))]
 pub fn holds_forbidden(s: &[u8]) -> bool
     ensures { result ≡ holds_forbidden s.now }
 {
-    for &b in s {
-        if is_forbidden(b) {
-            return true;
-        }
-    }
-    false
+    s.iter().any(|b| is_forbidden(*b))
 }

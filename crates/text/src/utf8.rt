@@ -95,13 +95,9 @@ pub fn is_whole(state: State) -> bool
 }
 
 // Whether s is UTF-8.
-#[tactic(auto, using(crate::proofs::Scan::run_next, crate::proofs::Scan::run_end), unfolding(crate::specs::Utf8::is_utf8))]
+#[tactic(auto, unfolding(crate::specs::Utf8::is_utf8))]
 pub fn is_utf8(s: &[u8]) -> bool
     ensures { result ≡ is_utf8 s.now }
 {
-    let mut state = State::Nothing;
-    for &b in s {
-        state = next(state, b);
-    }
-    is_whole(state)
+    is_whole(s.iter().fold(State::Nothing, |state, b| next(state, *b)))
 }

@@ -1,10 +1,11 @@
 -- What each return of the entries says, and what the list holds: nothing of it is written where anything is refused, and where all fit the
 -- tokens stand in front of its old numbers. The proofs of `tokenize` and `tokenize_in` cite these. Assumes nothing.
-use Rattle.std.specs.Prelude.{Err, Ok, Result}
+use Rattle.std.specs.Prelude.{Err, Ok, Option, Result}
+use Rattle.std.specs.Option.{ok_or}
 use Rattle.refusals.specs.declared.Refusal.{Refusal}
 use Prim.Native.Nat.{ℕ, suc, ◌+◌, ◌*◌, ◌≤◌, ◌<◌}
 use native.Mathlib.Omega.{arith}
-use mathlib.Core.Path.{◌≡◌, refl, sym, ap, ◌∙◌}
+use mathlib.Core.Path.{◌≡◌, refl, sym, ap, subst, ◌∙◌}
 use mathlib.Core.Bool.{Bool, true, false}
 use Rattle.runs.specs.Runs.{pick}
 use Rattle.std.proofs.lemmas.Option.{none-some, same_Some}
@@ -12,12 +13,13 @@ use Rattle.std.specs.declared.option.Option.TheVariants.{Some, None}
 use mathlib.Core.List.{List, [], ◌∷◌, ◌++◌, append_assoc}
 use lib.ListN.{length, take, drop, set, length-set, take-append-drop}
 use lib.Seq.{take-suc-set, drop-set-lt, take_at}
-use borrow.Author.Tests.{lt-ltb, le-ltb}
+use lib.Dec.{ltb}
+use borrow.Author.Tests.{lt-ltb, le-ltb, ltb-true, ltb-false}
 use Rattle.text.specs.Utf8.{is_utf8}
 use Rattle.tokenizer.specs.Tokens.{Span}
 use Rattle.tokenizer.specs.Scanned.{tokens_of}
 use Rattle.tokenizer.specs.Answers.{text_limit, tokenized, pairs, listed}
-use Rattle.tokenizer.specs.Stored.{stored, passed, counted}
+use Rattle.tokenizer.specs.Stored.{stored, passed, counted, pass_of}
 use Rattle.refusals.specs.Refusals.{output_by}
 use Rattle.refusals.specs.declared.Refusal.TheVariants.{TextTooLong, TextNotUtf8, ListTooShort}
 use Rattle.tokenizer.proofs.Turns.{put-room}
@@ -72,18 +74,7 @@ module _ (s old : List ℕ) where
   unfolding tokenized
   said_long h = rw (lt-ltb text_limit (length s) h)
 
-  pub long : text_limit < length s → (Err TextTooLong ≡ tokenized s (length old)) × (old ≡ listed s old)
-  long h = (said_long h, left_by_lem (Err TextTooLong) (said_long h))
-
-  pub long_passed : text_limit < length s → (Err TextTooLong ≡ tokenized s (length old)) × (old ≡ passed s old)
-  unfolding passed
-  long_passed h = (said_long h, rw (lt-ltb text_limit (length s) h))
-
   module _ (h : length s ≤ text_limit) where
-    is_passed : {new : List ℕ} → new ≡ stored old 0 (tokens_of s) → new ≡ passed s old
-    unfolding passed
-    is_passed e = rw (le-ltb text_limit (length s) h) e
-
     other_said : None ≡ counted s → is_utf8 s ≡ false
     unfolding counted
     other_said e = by (is_utf8 s) refl e
@@ -96,12 +87,6 @@ module _ (s old : List ℕ) where
     unfolding tokenized
     said_other e = rw (le-ltb text_limit (length s) h, other_said e)
 
-    pub other_passed : {new : List ℕ} → None ≡ counted s → new ≡ stored old 0 (tokens_of s) → (Err TextNotUtf8 ≡ tokenized s (length old)) × (new ≡ passed s old)
-    other_passed e f = (said_other e, is_passed f)
-
-    pub other : None ≡ counted s → (Err TextNotUtf8 ≡ tokenized s (length old)) × (old ≡ listed s old)
-    other e = (said_other e, left_by_lem (Err TextNotUtf8) (said_other e))
-
     module _ (n : ℕ) (c : Some n ≡ counted s) where
       all_said : (is_utf8 s ≡ true) × (n ≡ length (tokens_of s))
       unfolding counted
@@ -111,22 +96,16 @@ module _ (s old : List ℕ) where
           by true f g = (refl, same_Some n _ g)
           by false f g = absurd (none-some n (sym g))
 
-      said_short : length old < 2 * n → Err ListTooShort ≡ tokenized s (length old)
+      pub said_short : length old < 2 * n → Err ListTooShort ≡ tokenized s (length old)
       unfolding tokenized
       said_short k = rw (le-ltb text_limit (length s) h, all_said.0, ← all_said.1, lt-ltb (length old) (2 * n) k)
-
-      pub short_passed : {new : List ℕ} → length old < 2 * n → new ≡ stored old 0 (tokens_of s) → (Err ListTooShort ≡ tokenized s (length old)) × (new ≡ passed s old)
-      short_passed k f = (said_short k, is_passed f)
 
       pub short : length old < 2 * n → (Err ListTooShort ≡ tokenized s (length old)) × (old ≡ listed s old)
       short k = (said_short k, left_by_lem (Err ListTooShort) (said_short k))
 
-      said_all : 2 * n ≤ length old → Ok n ≡ tokenized s (length old)
+      pub said_all : 2 * n ≤ length old → Ok n ≡ tokenized s (length old)
       unfolding tokenized
       said_all k = rw (le-ltb text_limit (length s) h, all_said.0, ← all_said.1, le-ltb (length old) (2 * n) k)
-
-      pub all_passed : {new : List ℕ} → 2 * n ≤ length old → new ≡ stored old 0 (tokens_of s) → (Ok n ≡ tokenized s (length old)) × (new ≡ passed s old)
-      all_passed k f = (said_all k, is_passed f)
 
       pub all : {new : List ℕ} → 2 * n ≤ length old → new ≡ stored old 0 (tokens_of s) → (Ok n ≡ tokenized s (length old)) × (new ≡ listed s old)
       all k e =
@@ -139,3 +118,42 @@ module _ (s old : List ℕ) where
           let l : length (pairs (tokens_of s)) ≡ 2 * n = pairs-length (tokens_of s) ∙ ap (λ (x : ℕ). 2 * x) (sym all_said.1) in
           let t : take (2 * n) kept ≡ pairs (tokens_of s) = ap (take (2 * n)) (f ∙ stored_all (tokens_of s) own (rw all_said.1 at m)) ∙ take_at (pairs (tokens_of s)) _ (2 * n) l in
           (said_all k, ap (λ (x : List ℕ). x ++ drop (2 * n) old) (e ∙ t) ∙ ap (λ (x : ℕ). pairs (tokens_of s) ++ drop x old) (sym l) ∙ left_by_lem (Ok n) (said_all k))
+
+-- what the pass leaves and says
+module _ (s old : List ℕ) where
+  pub long_left : text_limit < length s → old ≡ passed s old
+  unfolding passed
+  long_left h = rw (lt-ltb text_limit (length s) h)
+
+  pub walked_left : length s ≤ text_limit → {new : List ℕ} → new ≡ stored old 0 (tokens_of s) → new ≡ passed s old
+  unfolding passed
+  walked_left h e = rw (le-ltb text_limit (length s) h) e
+
+  pub walked_back : length s ≤ text_limit → {new : List ℕ} → new ≡ passed s old → new ≡ stored old 0 (tokens_of s)
+  unfolding passed
+  walked_back h e = rw (le-ltb text_limit (length s) h) at e
+
+  pub long_said : text_limit < length s → Err TextTooLong ≡ pass_of s
+  unfolding pass_of
+  long_said h = rw (lt-ltb text_limit (length s) h)
+
+  pub walked_said : length s ≤ text_limit → {r : Result ℕ Refusal} → r ≡ ok_or (counted s) TextNotUtf8 → r ≡ pass_of s
+  unfolding pass_of
+  walked_said h e = rw (le-ltb text_limit (length s) h) e
+
+  -- what it refuses is refused, and what it counts are the tokens
+  abbrev Passed : Result ℕ Refusal → Type 0
+  Passed (Err f) = Err f ≡ tokenized s (length old)
+  Passed (Ok n) = (length s ≤ text_limit) × (Some n ≡ counted s)
+
+  pub pass_told : (r : Result ℕ Refusal) → r ≡ pass_of s → Passed r
+  unfolding pass_of
+  pass_told r e = subst Passed (sym e) (by (ltb text_limit (length s)) (counted s) refl refl)
+    where
+      by : (b : Bool) (o : Option ℕ) → ltb text_limit (length s) ≡ b → counted s ≡ o → Passed (pick b (Err TextTooLong) (ok_or o TextNotUtf8))
+      by true o p q = said_long s old (ltb-true _ _ p)
+      by false None p q = said_other s old (ltb-false _ _ p) (sym q)
+      by false (Some n) p q = (ltb-false _ _ p, sym q)
+
+  pub refused : {f : Refusal} → Err f ≡ pass_of s → (Err f ≡ tokenized s (length old)) × (old ≡ listed s old)
+  refused {f} e = let t = pass_told (Err f) e in (t, left_by_lem s old (Err f) t)

@@ -1,6 +1,9 @@
 -- What a list of numbers holds after tokens were written to it one by one, as many as there is room for: what the pass over a text
 -- leaves, for every text and every list. Assumes nothing.
-use Rattle.std.specs.Prelude.{ℕ, ◌+◌, ◌*◌, ◌≤◌, ◌≡◌, Bool, List, [], ◌∷◌, Option, Some, None, length, set, ltb}
+use Rattle.std.specs.Prelude.{ℕ, ◌+◌, ◌*◌, ◌≤◌, ◌≡◌, Bool, List, [], ◌∷◌, Option, Some, None, Result, Ok, Err, length, set, ltb}
+use Rattle.std.specs.Option.{ok_or}
+use Rattle.refusals.specs.declared.Refusal.{Refusal}
+use Rattle.refusals.specs.declared.Refusal.TheVariants.{TextTooLong, TextNotUtf8}
 use Rattle.runs.specs.Runs.{pick}
 use Rattle.text.specs.Utf8.{is_utf8}
 use Rattle.tokenizer.specs.Tokens.{Span}
@@ -23,6 +26,10 @@ passed s old = pick (ltb text_limit (length s)) old (stored old 0 (tokens_of s))
 -- how many tokens s has, where it is UTF-8
 unfoldable pub counted : List ℕ → Option ℕ
 counted s = pick (is_utf8 s) (Some (length (tokens_of s))) None
+
+-- what the pass over s says: that it is too long or not UTF-8, else how many tokens there are
+unfoldable pub pass_of : List ℕ → Result ℕ Refusal
+pass_of s = pick (ltb text_limit (length s)) (Err TextTooLong) (ok_or (counted s) TextNotUtf8)
 
 -- a run from byte a up to byte e has ended after n tokens: it is stored where it is held, and m tokens are counted then
 pub record Ended (old new : List ℕ) (n m : ℕ) (held : Bool) (a e : ℕ) : Type 0 where

@@ -4,7 +4,7 @@
 ghost use Rattle.std.specs.Prelude.{◌≡◌, length};
 ghost use Rattle.tokenizer.specs.Answers.{tokenized, listed};
 
-use crate::walk::walk;
+use crate::walk::{pass, walk};
 use refusals::Refusal;
 
 pub mod once;
@@ -19,13 +19,8 @@ pub fn tokenize(text: &[u8], list: &mut [u32]) -> Result<usize, Refusal>
     ensures { (result ≡ tokenized text.now (length list.old))
         × (list.new ≡ listed text.now list.old) }
 {
-    if 65536 < text.len() {
-        return Err(Refusal::TextTooLong);
-    }
     let mut own = [0u32; 1024];
-    let Some(count) = walk(text, &mut own) else {
-        return Err(Refusal::TextNotUtf8);
-    };
+    let count = pass(text, &mut own)?;
     if list.len() < 2 * count {
         return Err(Refusal::ListTooShort);
     }

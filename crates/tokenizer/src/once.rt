@@ -3,7 +3,7 @@ ghost use Rattle.std.specs.Prelude.{◌≡◌, length};
 ghost use Rattle.tokenizer.specs.Answers.{tokenized};
 ghost use Rattle.tokenizer.specs.Stored.{passed};
 
-use crate::walk::walk;
+use crate::walk::pass;
 use refusals::Refusal;
 
 // The tokens of the text, in a list of the caller's own: start and end of each, one after the other. One pass over the text, which
@@ -12,12 +12,7 @@ pub fn tokenize_in(text: &[u8], list: &mut [u32]) -> Result<usize, Refusal>
     ensures { (result ≡ tokenized text.now (length list.old))
         × (list.new ≡ passed text.now list.old) }
 {
-    if 65536 < text.len() {
-        return Err(Refusal::TextTooLong);
-    }
-    let Some(count) = walk(text, list) else {
-        return Err(Refusal::TextNotUtf8);
-    };
+    let count = pass(text, list)?;
     if list.len() < 2 * count {
         return Err(Refusal::ListTooShort);
     }

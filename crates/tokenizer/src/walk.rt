@@ -1,10 +1,11 @@
 // The pass over a text.
-ghost use Rattle.std.specs.Prelude.{◌≡◌, ◌+◌, ◌≤◌, length, IfSome};
+ghost use Rattle.std.specs.Prelude.{◌≡◌, ◌+◌, ◌≤◌, length, IfSome, IfOk};
 ghost use Rattle.tokenizer.specs.Scanned.{tokens_of};
 ghost use Rattle.tokenizer.specs.Answers.{text_limit};
-ghost use Rattle.tokenizer.specs.Stored.{counted, stored, Ended};
+ghost use Rattle.tokenizer.specs.Stored.{counted, stored, passed, pass_of, Ended};
 
 use crate::seen::look;
+use refusals::Refusal;
 
 // How many tokens there are after a run from `start` up to `end`, which is stored where it is held and there is room.
 fn end_run(list: &mut [u32], count: usize, start: usize, end: usize, held: bool) -> usize
@@ -47,4 +48,16 @@ pub(crate) fn walk(text: &[u8], list: &mut [u32]) -> Option<usize>
         }
     }
     Some(end_run(list, count, start, at, held))
+}
+
+// The same of any text: refused is one over 65,536 bytes (9), which is not walked, and one that is not UTF-8 (2).
+pub(crate) fn pass(text: &[u8], list: &mut [u32]) -> Result<usize, Refusal>
+    ensures value { result ≡ pass_of text.now }
+    ensures left { list.new ≡ passed text.now list.old }
+    ensures bound { IfOk result (λ n. n ≤ text_limit + 1) }
+{
+    if 65536 < text.len() {
+        return Err(Refusal::TextTooLong);
+    }
+    walk(text, list).ok_or(Refusal::TextNotUtf8)
 }

@@ -9,7 +9,7 @@ use Rattle.corrected.specs.Answers.{opening_of}
 use Rattle.corrected.specs.Spans.{Opens}
 use Rattle.corrected.proofs.Answered.{short, inside, put_refused, put-none, put-over, put_done}
 use Rattle.corrected.proofs.entry.put_line.Goals as goal
-use Rattle.corrected.proofs.entry.put_line.Goals.{In_ok-span}
+use Rattle.corrected.proofs.entry.put_line.Goals.{In_ok-span, then-buffer-size-via-then-buffer-size, then-buffer-size-via-else-buffer-size+then-size-gt-SHEET_BYTES}
 
 told : (c : In_ok-span) → let a = c.args in
     Opens (opening_of a.buffer.now a.used a.line.now) (take a.used a.buffer.now) a.line.now (Ok c.in_ok-span.span)
@@ -32,10 +32,12 @@ pub overflow_add-size-2 : goal.overflow_add-size-2
 overflow_add-size-2 c = omega (arith, (within (goal.at.overflow_add-size-2 c).In_ok-span).0, (within (goal.at.overflow_add-size-2 c).In_ok-span).1, (told (goal.at.overflow_add-size-2 c).In_ok-span).2.ordered, c.well_formed)
 
 pub returns-then-buffer-size : goal.returns-then-buffer-size
-returns-then-buffer-size c = let t = told (goal.at.returns-then-buffer-size c).In_ok-span in put-none _ _ _ t.0 t.1 _ t.2 c.if-buffer-size.true
-
-pub returns-then-size-gt-SHEET_BYTES : goal.returns-then-size-gt-SHEET_BYTES
-returns-then-size-gt-SHEET_BYTES c = let t = told (goal.at.returns-then-size-gt-SHEET_BYTES c).In_ok-span in put-over _ _ _ t.0 t.1 _ t.2 c.if-buffer-size.false c.if-size-gt-SHEET_BYTES.true
+returns-then-buffer-size c =
+    let t = told (goal.at.returns-then-buffer-size c).In_ok-span in
+    elim c.then-buffer-size.branch [
+      | then-buffer-size-via-then-buffer-size w ↦ put-none _ _ _ t.0 t.1 _ t.2 w.if-buffer-size.true
+      | then-buffer-size-via-else-buffer-size+then-size-gt-SHEET_BYTES w ↦ put-over _ _ _ t.0 t.1 _ t.2 w.if-buffer-size.false w.if-size-gt-SHEET_BYTES.true
+    ]
 
 pub replace-requires : goal.replace-requires
 replace-requires c =

@@ -1,25 +1,32 @@
 -- `place::read_given` meets its contract, by what the walk's step tells of a first line. Assumes nothing.
-use mathlib.Core.Path.{sym, ◌∙◌}
-use Rattle.sheet.specs.declared.walk.Reached.TheVariants.{Form}
-use Rattle.corrected.proofs.Singles.{ToldFirst, first-told, empty_given, none-given, more_given, single_given}
+use Rattle.std.specs.Prelude.{Ok, Some}
+use Prim.Native.Nat.{ℕ}
+use native.Mathlib.Omega.{arith}
+use mathlib.Core.Path.{◌≡◌, sym, ap, ◌∙◌}
+use Rattle.sheet.specs.declared.line.Form.{Form}
+use Rattle.sheet.specs.declared.walk.Walk.{Walk}
+use Rattle.corrected.proofs.Singles.{ToldFirst, first-told, none_reached, more_given, single_given}
 use Rattle.corrected.proofs.place.read_given.Goals as goal
-use Rattle.corrected.proofs.place.read_given.Goals.{In-Form}
+use Rattle.corrected.proofs.place.read_given.Goals.{In-Ok-Some}
+
+pub returns-in_default : goal.returns-in_default
+returns-in_default c =
+    none_reached c.args.line.now c.step.result c.step.ensures (λ form e. let i = c.in_default.is in let z : ◌≡◌ {A = ℕ} 0 1 = cc in absurd (omega arith))
+
+pub returns-in_default-2 : goal.returns-in_default-2
+returns-in_default-2 c =
+    none_reached c.args.line.now c.step.result c.step.ensures (λ form e. let i = c.in_default.is in let z : ◌≡◌ {A = ℕ} 0 1 = cc in absurd (omega arith))
 
 -- what the walk tells of a form
-told : (c : In-Form) → let a = c.args in ToldFirst a.line.now (Form c.in-Form.letter c.in-Form.name_end c.in-Form.value_end c.in-Form.next)
-told c = first-told c.args.line.now _ (sym c.in-Form.is ∙ c.step-read.ensures)
+told : (c : In-Ok-Some) → ToldFirst c.args.line.now (Ok (Some c.in-Ok-Some.form))
+told c = first-told c.args.line.now (Ok (Some c.in-Ok-Some.form)) (sym (c.in-Ok-Some.is ∙ ap (λ o. Ok o) c.in-Ok-Some.field-0-is) ∙ c.step.ensures)
 
-pub returns-then-next-line : goal.returns-then-next-line
-returns-then-next-line c = let t = told (goal.at.returns-then-next-line c).In-Form in more_given _ t.0 _ t.4 c.if-next-line.true
+pub returns-then-form-line : goal.returns-then-form-line
+returns-then-form-line c =
+    let t = told (goal.at.returns-then-form-line c).In-Ok-Some in
+    more_given _ t.0 _ (ap (λ (r : Form Walk). r.next.at) t.1) c.if-form-line.true
 
-pub returns-in-End : goal.returns-in-End
-returns-in-End c = empty_given _ (first-told _ _ (sym c.in-End.is ∙ c.step-read.ensures))
-
-pub returns-in-NoForm : goal.returns-in-NoForm
-returns-in-NoForm c = none-given _ (first-told _ _ (sym c.in-NoForm.is ∙ c.step-read.ensures))
-
-pub returns-in-NotAbove : goal.returns-in-NotAbove
-returns-in-NotAbove c = absurd (first-told _ _ (sym c.in-NotAbove.is ∙ c.step-read.ensures))
-
-pub returns-else-next-line : goal.returns-else-next-line
-returns-else-next-line c = let t = told (goal.at.returns-else-next-line c).In-Form in single_given _ t.0 _ _ _ t.1 t.2 t.4 c.if-next-line.false
+pub returns : goal.returns
+returns c =
+    let t = told (goal.at.returns c).In-Ok-Some in
+    single_given _ t.0 _ _ _ (ap (λ (r : Form Walk). r.letter) t.1) (ap (λ (r : Form Walk). r.name_end) t.1) (ap (λ (r : Form Walk). r.next.at) t.1) c.if-form-line.false

@@ -6,17 +6,21 @@ use mathlib.Core.Path.{◌≡◌, refl, sym, ap, subst, ◌∙◌}
 use mathlib.Core.List.{List, ◌∷◌, ◌++◌, append-nil}
 use lib.ListN.{length, take, get_or, length-set}
 use lib.Seq.{length-take-le}
-use Rattle.sheet.specs.Lines.{starts_of, sheet_check}
+use Rattle.sheet.specs.Lines.{starts_of, fault_at, sheet_check}
 use Rattle.sheet.specs.Walks.{starts_ahead}
-use Rattle.sheet.proofs.Walks.{Formed, turn, check_long, check_walk}
+use Rattle.std.proofs.Common.{rules}
+use Rattle.std.proofs.lemmas.Result.{err_from_is_err_and}
+use Rattle.sheet.specs.declared.line.LineFault.{LineFault}
+use Rattle.sheet.specs.declared.line.LineFault.TheVariants as line
+use Rattle.sheet.proofs.Walks.{Turn, Formed, turn, faults_mapped, ok_left, check_long, check_walk}
 use Rattle.lookup.specs.Starts.{Room}
 use Rattle.lookup.specs.Stored.{Counted, counted, stored_in, Stored}
 use Rattle.std.specs.Prelude.{Result, Ok, Err}
 use Rattle.sheet.specs.declared.check.SheetFault.{SheetFault}
-use Rattle.sheet.specs.declared.check.SheetFault.TheVariants.{TooLong, NoForm, NotAbove}
+use Rattle.sheet.specs.declared.check.SheetFault.TheVariants.{TooLong}
 use Rattle.lookup.proofs.Count.{stored-front, stored-behind, stored_far, line_next}
 use Rattle.lookup.proofs.lines.check_lines.Goals as goal
-use Rattle.lookup.proofs.lines.check_lines.Goals.{At-loop-next, In-Form}
+use Rattle.lookup.proofs.lines.check_lines.Goals.{At-loop-form, In-Some, In_ok-form}
 
 -- a number of lines is the same as another
 okay : {n m : ℕ} → n ≡ m → ◌≡◌ {A = Result ℕ SheetFault} (Ok n) (Ok m)
@@ -33,88 +37,92 @@ told s before after v r n e f k o = record {
 pub returns-then-s-gt-SHEET_BYTES : goal.returns-then-s-gt-SHEET_BYTES
 returns-then-s-gt-SHEET_BYTES c = told c.args.s.now _ _ (Err TooLong) _ 0 (check_long _ c.if-s-gt-SHEET_BYTES.true) refl refl refl
 
-pub loop-next-init : goal.loop-next-init
-loop-next-init c = (omega arith, tt, check_walk _ c.if-s-gt-SHEET_BYTES.false, refl, omega arith, refl, refl)
+pub loop-form-init : goal.loop-form-init
+loop-form-init c = (omega arith, tt, check_walk _ c.if-s-gt-SHEET_BYTES.false, refl, omega arith, refl, refl)
 
-pub step-line-requires : goal.step-line-requires
-step-line-requires c = c.loop-next.invariant.1
+pub step-requires : goal.step-requires
+step-requires c = c.loop-form.invariant.1
 
 -- so far there are no more lines than there is room for
-few : (d : At-loop-next) → d.loop-next.n ≤ length d.loop-next.out
+few : (d : At-loop-form) → d.loop-form.n ≤ length d.loop-form.out
 unfolding Room
-few d = let b = d in omega (arith, d.loop-next.invariant.0, d.loop-next.invariant.3, d.loop-next.invariant.4, b.requires d.if-s-gt-SHEET_BYTES.false)
+few d = let b = d in omega (arith, d.loop-form.invariant.0, d.loop-form.invariant.3, d.loop-form.invariant.4, b.requires d.if-s-gt-SHEET_BYTES.false)
 
 -- what is stored so far
-stored : (d : At-loop-next) → d.loop-next.out ≡ stored_in d.args.s.now d.loop-next.n d.args.out.now
-stored d = stored_far (starts_of d.args.s.now) d.loop-next.out d.args.out.now d.loop-next.n (few d) _ d.loop-next.invariant.5 d.loop-next.invariant.6
+stored : (d : At-loop-form) → d.loop-form.out ≡ stored_in d.args.s.now d.loop-form.n d.args.out.now
+stored d = stored_far (starts_of d.args.s.now) d.loop-form.out d.args.out.now d.loop-form.n (few d) _ d.loop-form.invariant.5 d.loop-form.invariant.6
 
 -- the line to come, where one does, is number n
-line_at : (d : At-loop-next) (at : ℕ) (rest : List ℕ) → starts_ahead d.args.s.now d.loop-next.walk ≡ at ∷ rest →
-    (d.loop-next.n < length (starts_of d.args.s.now)) × (get_or (starts_of d.args.s.now) d.loop-next.n 0 ≡ at)
+line_at : (d : At-loop-form) (at : ℕ) (rest : List ℕ) → starts_ahead d.args.s.now d.loop-form.walk ≡ at ∷ rest →
+    (d.loop-form.n < length (starts_of d.args.s.now)) × (get_or (starts_of d.args.s.now) d.loop-form.n 0 ≡ at)
 line_at d at rest e =
-    line_next (starts_of d.args.s.now) d.loop-next.out d.args.out.now d.loop-next.n (few d) at rest
-    (d.loop-next.invariant.5 ∙ ap (λ (x : List ℕ). take d.loop-next.n d.loop-next.out ++ x) e)
+    line_next (starts_of d.args.s.now) d.loop-form.out d.args.out.now d.loop-form.n (few d) at rest
+    (d.loop-form.invariant.5 ∙ ap (λ (x : List ℕ). take d.loop-form.n d.loop-form.out ++ x) e)
 
-pub returns-in-End : goal.returns-in-End
-returns-in-End c =
-    let e = turn c.args.s.now c.loop-next.walk _ (sym c.in-End.is ∙ c.step-line.ensures) in
-    let p : starts_of c.args.s.now ≡ take c.loop-next.n c.loop-next.out = c.loop-next.invariant.5 ∙ ap (λ (l : List ℕ). take c.loop-next.n c.loop-next.out ++ l) e.starts ∙ append-nil _ in
-    let n : c.loop-next.n ≡ length (starts_of c.args.s.now) = sym (ap length p ∙ length-take-le c.loop-next.n c.loop-next.out (few (goal.at.returns-in-End c).At-loop-next)) in
-    told c.args.s.now _ _ (Ok tt) _ c.loop-next.n (sym (c.loop-next.invariant.2 ∙ e.said)) (okay n) n (stored (goal.at.returns-in-End c).At-loop-next)
+-- what the step gave where it refused nothing
+given : (c : In_ok-form) → Turn c.args.s.now c.loop-form.walk (Ok c.in_ok-form.field-0)
+given c = turn c.args.s.now c.loop-form.walk _ (sym (ok_left c.loop-form.walk.at c.step.result _ c.map_err.result c.map_err.ensures.cases _ c.in_ok-form.was) ∙ c.step.ensures)
 
-pub shape_of-out-in-End : goal.shape_of-out-in-End
-shape_of-out-in-End c = c.loop-next.invariant.3
+pub returns : goal.returns
+returns c =
+    let e = subst (λ o. Turn c.args.s.now c.loop-form.walk (Ok o)) c.in_default.is (given (goal.at.returns c).In_ok-form) in
+    let p : starts_of c.args.s.now ≡ take c.loop-form.n c.loop-form.out = c.loop-form.invariant.5 ∙ ap (λ (l : List ℕ). take c.loop-form.n c.loop-form.out ++ l) e.starts ∙ append-nil _ in
+    let n : c.loop-form.n ≡ length (starts_of c.args.s.now) = sym (ap length p ∙ length-take-le c.loop-form.n c.loop-form.out (few (goal.at.returns c).At-loop-form)) in
+    told c.args.s.now _ _ (Ok tt) _ c.loop-form.n (sym (c.loop-form.invariant.2 ∙ e.said)) (okay n) n (stored (goal.at.returns c).At-loop-form)
 
-pub shape_of-out-in-NoForm : goal.shape_of-out-in-NoForm
-shape_of-out-in-NoForm c = c.loop-next.invariant.3
+pub shape_of-out : goal.shape_of-out
+shape_of-out c = c.loop-form.invariant.3
 
-pub shape_of-out-in-NotAbove : goal.shape_of-out-in-NotAbove
-shape_of-out-in-NotAbove c = c.loop-next.invariant.3
+pub shape_of-out-in_err-form : goal.shape_of-out-in_err-form
+shape_of-out-in_err-form c = c.loop-form.invariant.3
 
-pub returns-in-NoForm : goal.returns-in-NoForm
-returns-in-NoForm c =
-    let e = turn c.args.s.now c.loop-next.walk _ (sym c.in-NoForm.is ∙ c.step-line.ensures) in
-    told c.args.s.now _ _ (Err (NoForm _)) _ c.loop-next.n (sym (c.loop-next.invariant.2 ∙ e.said)) refl (line_at (goal.at.returns-in-NoForm c).At-loop-next _ _ e.starts) (stored (goal.at.returns-in-NoForm c).At-loop-next)
+-- a faulty line's number and place
+at_fault : (d : At-loop-form) (fault : LineFault) (at : ℕ) (rest : List ℕ) → starts_ahead d.args.s.now d.loop-form.walk ≡ at ∷ rest → Counted d.args.s.now (Err (fault_at fault at)) d.loop-form.n
+at_fault d line.NoForm at rest e = line_at d at rest e
+at_fault d line.NotAbove at rest e = line_at d at rest e
 
-pub returns-in-NotAbove : goal.returns-in-NotAbove
-returns-in-NotAbove c =
-    let e = turn c.args.s.now c.loop-next.walk _ (sym c.in-NotAbove.is ∙ c.step-line.ensures) in
-    told c.args.s.now _ _ (Err (NotAbove _)) _ c.loop-next.n (sym (c.loop-next.invariant.2 ∙ e.said)) refl (line_at (goal.at.returns-in-NotAbove c).At-loop-next _ _ e.starts) (stored (goal.at.returns-in-NotAbove c).At-loop-next)
+pub returns-in_err-form : goal.returns-in_err-form
+returns-in_err-form c =
+    let p = err_from_is_err_and c.from_residual.result c.from_residual.ensures.1 in
+    let m = faults_mapped c.loop-form.walk.at c.step.result _ c.map_err.result c.map_err.ensures.cases (λ e d k. search rules) _ c.in_err-form.was in
+    let e = turn c.args.s.now c.loop-form.walk (Err m.0) (sym m.1 ∙ c.step.ensures) in
+    let d = (goal.at.returns-in_err-form c).At-loop-form in
+    told c.args.s.now _ _ (Err (fault_at m.0 c.loop-form.walk.at)) _ c.loop-form.n (sym (c.loop-form.invariant.2 ∙ e.said)) (p.1 ∙ ap (λ f. Err f) (p.2 ∙ m.2)) (at_fault d m.0 _ _ e.starts) (stored d)
 
 -- the form that was reached
-form : (c : In-Form) → Formed c.args.s.now c.loop-next.walk c.in-Form.letter c.in-Form.name_end c.in-Form.value_end c.in-Form.next
-form c = turn c.args.s.now c.loop-next.walk _ (sym c.in-Form.is ∙ c.step-line.ensures)
+form : (c : In-Some) → Turn c.args.s.now c.loop-form.walk (Ok c.in_ok-form.field-0) → Formed c.args.s.now c.loop-form.walk c.in-Some.form
+form c t = subst (λ o. Turn c.args.s.now c.loop-form.walk (Ok o)) c.in-Some.is t
 
 -- a line has at least so many bytes that there is room for its start
-more : (c : In-Form) → c.loop-next.n < length c.loop-next.out
+more : (c : In-Some) → Turn c.args.s.now c.loop-form.walk (Ok c.in_ok-form.field-0) → c.loop-form.n < length c.loop-form.out
 unfolding Room
-more c =
-    omega (arith, (form c).longer, (form c).fits, c.loop-next.invariant.3, c.loop-next.invariant.4, c.requires c.if-s-gt-SHEET_BYTES.false)
+more c t =
+    omega (arith, (form c t).longer, (form c t).fits, c.loop-form.invariant.3, c.loop-form.invariant.4, c.requires c.if-s-gt-SHEET_BYTES.false)
 
 pub overflow_cast-out : goal.overflow_cast-out
-overflow_cast-out c = omega (arith, (form (goal.at.overflow_cast-out c).In-Form).inside, c.if-s-gt-SHEET_BYTES.false)
+overflow_cast-out c = omega (arith, (form (goal.at.overflow_cast-out c).In-Some (given (goal.at.overflow_cast-out c).In_ok-form)).inside, c.if-s-gt-SHEET_BYTES.false)
 
 pub offset_bounds-out-n : goal.offset_bounds-out-n
-offset_bounds-out-n c = omega (arith, more (goal.at.offset_bounds-out-n c).In-Form)
+offset_bounds-out-n c = omega (arith, more (goal.at.offset_bounds-out-n c).In-Some (given (goal.at.offset_bounds-out-n c).In_ok-form))
 
 pub bounds-out-n : goal.bounds-out-n
-bounds-out-n c = more (goal.at.bounds-out-n c).In-Form
+bounds-out-n c = more (goal.at.bounds-out-n c).In-Some (given (goal.at.bounds-out-n c).In_ok-form)
 
 pub overflow_add-n : goal.overflow_add-n
-overflow_add-n c = omega (arith, more (goal.at.overflow_add-n c).In-Form)
+overflow_add-n c = omega (arith, more (goal.at.overflow_add-n c).In-Some (given (goal.at.overflow_add-n c).In_ok-form))
 
-pub loop-next-smaller : goal.loop-next-smaller
-loop-next-smaller c = let f = form (goal.at.loop-next-smaller c).In-Form in omega (arith, f.longer, f.fits)
+pub loop-form-smaller : goal.loop-form-smaller
+loop-form-smaller c = let f = form (goal.at.loop-form-smaller c).In-Some (given (goal.at.loop-form-smaller c).In_ok-form) in omega (arith, f.longer, f.fits)
 
-pub loop-next-preserved : goal.loop-next-preserved
-loop-next-preserved c =
-    let f = form (goal.at.loop-next-preserved c).In-Form in (
+pub loop-form-preserved : goal.loop-form-preserved
+loop-form-preserved c =
+    let f = form (goal.at.loop-form-preserved c).In-Some (given (goal.at.loop-form-preserved c).In_ok-form) in (
       f.fits,
       f.standing,
-      c.loop-next.invariant.2 ∙ f.said,
-      simp length-set c.loop-next.invariant.3,
-      omega (arith, f.longer, c.loop-next.invariant.4),
-      c.loop-next.invariant.5 ∙ ap (λ (x : List ℕ). take c.loop-next.n c.loop-next.out ++ x) f.starts
-          ∙ sym (stored-front c.loop-next.out c.args.out.now c.loop-next.n c.loop-next.walk.at (more (goal.at.loop-next-preserved c).In-Form) _),
-      stored-behind c.loop-next.out c.args.out.now c.loop-next.n c.loop-next.walk.at (more (goal.at.loop-next-preserved c).In-Form) c.loop-next.invariant.6,
+      c.loop-form.invariant.2 ∙ f.said,
+      simp length-set c.loop-form.invariant.3,
+      omega (arith, f.longer, c.loop-form.invariant.4),
+      c.loop-form.invariant.5 ∙ ap (λ (x : List ℕ). take c.loop-form.n c.loop-form.out ++ x) f.starts
+          ∙ sym (stored-front c.loop-form.out c.args.out.now c.loop-form.n c.loop-form.walk.at (more (goal.at.loop-form-preserved c).In-Some (given (goal.at.loop-form-preserved c).In_ok-form)) _),
+      stored-behind c.loop-form.out c.args.out.now c.loop-form.n c.loop-form.walk.at (more (goal.at.loop-form-preserved c).In-Some (given (goal.at.loop-form-preserved c).In_ok-form)) c.loop-form.invariant.6,
     )

@@ -10,8 +10,8 @@ use Rattle.sheet.specs.Walks.{Standing, starts_ahead}
 use Rattle.sheet.proofs.Walks.{judged_ahead}
 use Rattle.lookup.proofs.lines.check_lines.Given as goal
 
-abbrev pub invariant-loop-next : goal.invariant-loop-next
-invariant-loop-next l = (l.walk.at ≤ length l.s)
+abbrev pub invariant-loop-form : goal.invariant-loop-form
+invariant-loop-form l = (l.walk.at ≤ length l.s)
     × Standing l.s l.walk.last
     × (sheet_check l.s ≡ judged_ahead l.s l.walk)
     × (length l.out ≡ length l.initial.out)
@@ -19,5 +19,5 @@ invariant-loop-next l = (l.walk.at ≤ length l.s)
     × (starts_of l.s ≡ take l.n l.out ++ starts_ahead l.s l.walk)
     × (drop l.n l.out ≡ drop l.n l.initial.out)
 
-abbrev pub decreases-loop-next : goal.decreases-loop-next
-decreases-loop-next l = length l.s - l.walk.at
+abbrev pub decreases-loop-form : goal.decreases-loop-form
+decreases-loop-form l = length l.s - l.walk.at

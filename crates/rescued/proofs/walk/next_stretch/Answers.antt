@@ -1,7 +1,24 @@
--- `walk::next_stretch` meets its contract where a form was reached. Assumes nothing.
-use Rattle.rescued.proofs.Stretched.{at_form}
+-- `walk::next_stretch` meets its contract, by what the walk reaches. Assumes nothing.
+use Rattle.std.specs.Prelude.{Ok, Err}
+use mathlib.Core.Path.{sym, ap, subst, ◌∙◌}
+use Rattle.rescued.specs.Places.{Stepped}
+use Rattle.rescued.proofs.Stretched.{at_end, at_no_form, at_not_above, at_form}
 use Rattle.rescued.proofs.walk.next_stretch.Goals as goal
 
-pub returns-in-Form : goal.returns-in-Form
-returns-in-Form c =
-    at_form _ _ c.requires.0 c.requires.1 _ c.step-line.ensures _ _ _ _ c.in-Form.is
+pub returns-in-Ok-Some : goal.returns-in-Ok-Some
+returns-in-Ok-Some c =
+    at_form c.args.s.now c.args.walk c.requires.0 c.requires.1 c.in-Ok-Some.form (sym (c.in-Ok-Some.is ∙ ap (λ o. Ok o) c.in-Ok-Some.field-0-is) ∙ c.step.ensures)
+
+pub returns-in-Err-NotAbove : goal.returns-in-Err-NotAbove
+returns-in-Err-NotAbove c =
+    subst (Stepped c.args.s.now c.args.walk) (sym c.dropped-in-Err-NotAbove.ensures)
+    (at_not_above c.args.s.now c.args.walk c.requires.0 c.requires.1 (sym (c.in-Err-NotAbove.is ∙ ap (λ o. Err o) c.in-Err-NotAbove.field-0-is) ∙ c.step.ensures))
+
+pub returns-in-Err-NoForm : goal.returns-in-Err-NoForm
+returns-in-Err-NoForm c =
+    subst (Stepped c.args.s.now c.args.walk) (sym c.dropped-in-Err-NoForm.ensures)
+    (at_no_form c.args.s.now c.args.walk c.requires.0 c.requires.1 (sym (c.in-Err-NoForm.is ∙ ap (λ o. Err o) c.in-Err-NoForm.field-0-is) ∙ c.step.ensures))
+
+pub returns-in-Ok-None : goal.returns-in-Ok-None
+returns-in-Ok-None c =
+    absurd (at_end c.args.s.now c.args.walk c.requires.0 c.requires.1 (sym (c.in-Ok-None.is ∙ ap (λ o. Ok o) c.in-Ok-None.field-0-is) ∙ c.step.ensures))

@@ -7,8 +7,8 @@ use Rattle.sheet.specs.Walks.{Standing}
 use Rattle.sheet.proofs.Walks.{judged_ahead}
 use Rattle.sheet.proofs.check.check_sheet.Given as goal
 
-abbrev pub invariant-loop-next : goal.invariant-loop-next
-invariant-loop-next l = (l.walk.at ≤ length l.s) × Standing l.s l.walk.last × (sheet_check l.s ≡ judged_ahead l.s l.walk)
+abbrev pub invariant-loop-form : goal.invariant-loop-form
+invariant-loop-form l = (l.walk.at ≤ length l.s) × Standing l.s l.walk.last × (sheet_check l.s ≡ judged_ahead l.s l.walk)
 
-abbrev pub decreases-loop-next : goal.decreases-loop-next
-decreases-loop-next l = length l.s - l.walk.at
+abbrev pub decreases-loop-form : goal.decreases-loop-form
+decreases-loop-form l = length l.s - l.walk.at

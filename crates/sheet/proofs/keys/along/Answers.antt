@@ -4,7 +4,7 @@ use mathlib.Core.Path.{sym, ◌∙◌}
 use Rattle.std.proofs.Math.Arith.{lt_of_le-ne}
 use native.Mathlib.Numerals.{add-one}
 use native.Mathlib.Omega.{arith}
-use Rattle.sheet.proofs.Spaced.{spaced-past, spaced-none, spaced-cons, head_ended, head_less, head_greater, head_same, head_all}
+use Rattle.sheet.proofs.Spaced.{spaced-past, spaced-none, spaced-cons, head_ended, head_less, head_greater, head_same}
 use Rattle.sheet.proofs.keys.along.Goals as goal
 
 pub returns-then-t-i : goal.returns-then-t-i

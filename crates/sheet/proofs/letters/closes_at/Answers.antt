@@ -1,12 +1,8 @@
 -- `sheet::letters::closes_at` meets its contract: at most the tag is left where one stands, else nothing. Assumes nothing.
-use native.Mathlib.Omega.{arith}
-use mathlib.Core.Path.{sym, ap, ◌∙◌}
+use mathlib.Core.Path.{ap, ◌∙◌}
 use Rattle.sheet.specs.Letters.{is_tagged}
-use Rattle.sheet.proofs.Kept.{closes-tagged, closes_untagged}
+use Rattle.sheet.proofs.Kept.{closes_by}
 use Rattle.sheet.proofs.letters.closes_at.Goals as goal
 
-pub returns-then-is_some : goal.returns-then-is_some
-returns-then-is_some c = closes-tagged c.args.v.now c.args.i (ap is_tagged (sym c.tag_at.ensures) ∙ sym c.is_some.ensures ∙ c.if-is_some.true)
-
 pub returns : goal.returns
-returns c = closes_untagged c.args.v.now c.args.i (ap is_tagged (sym c.tag_at.ensures) ∙ sym c.is_some.ensures ∙ c.if-is_some.false)
+returns c = closes_by c.args.v.now c.args.i c.from.result c.is_some.result (c.is_some.ensures ∙ ap is_tagged c.tag_at.ensures) c.from.ensures
