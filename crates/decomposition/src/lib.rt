@@ -4,7 +4,7 @@
 ghost use Rattle.std.specs.Prelude.{◌≡◌, ◌+◌, ◌≤◌, ◌<◌, length};
 ghost use Rattle.lookup.specs.Lexicons.{replies};
 ghost use Rattle.decomposition.specs.Strips.{least_root};
-ghost use Rattle.decomposition.specs.Parts.{label_limit, parts_at, root_text, decomposed_of, morpheme_of};
+ghost use Rattle.decomposition.specs.Parts.{label_limit, parts_at, prefixes_of, root_text, decomposed_of, morpheme_of};
 
 use crate::fronts::{Front, first_front};
 use crate::suffixes::strip_rows;
@@ -20,13 +20,22 @@ pub mod suffixes;
 // A word in parts. The root is the word's bytes from `start` up to `end`; `prefix` is the row of a label of PREFIX_FORMS, where there
 // is one, and the first `suffix_count` of `suffixes` are the rows of the labels of SUFFIXES in strip order; places that are not used
 // are 0.
-#[derive(Clone, Copy)]
+#[derive(Clone, Copy, Default)]
 pub struct Parts {
     pub start: u8,
     pub end: u8,
     pub prefix: Option<u8>,
     pub suffix_count: u8,
     pub suffixes: [u8; 24],
+}
+
+impl Parts {
+    // How many prefixes the word has: one or none.
+    pub fn prefix_count(&self) -> u8
+        ensures { (result ≡ length (prefixes_of self.now.prefix)) × (result ≤ 1) }
+    {
+        u8::from(self.prefix.is_some())
+    }
 }
 
 // A decomposition: the parts, and the origin of the whole word.
