@@ -4,7 +4,8 @@ use Rattle.sheet.specs.Replies.{Ask, letters_by}
 use Rattle.sheet.specs.declared.letters.Letters.{Letters}
 use Rattle.lookup.specs.declared.begins.Range.{Range}
 use Rattle.progressive.specs.Progressive.{is_progressive}
-use Rattle.paths.specs.Support.{has_sibling, score_for}
+use Rattle.ranking.specs.Scores.{score_for}
+use Rattle.paths.specs.Support.{has_sibling}
 use Rattle.analysis.specs.declared.support.Support.{Support}
 
 -- of the lines whose names begin with a root there is at most one, and the root has letters: that line is the root's own

@@ -3,12 +3,13 @@ ghost use Rattle.std.specs.Prelude.{◌≡◌, ◌++◌, ◌≤◌};
 ghost use Rattle.lookup.specs.Lexicons.{replies};
 ghost use Rattle.lookup.specs.Begins.{Begun};
 ghost use Rattle.progressive.specs.Progressive.{is_progressive};
-ghost use Rattle.paths.specs.Support.{is_known, has_sibling, points};
+ghost use Rattle.paths.specs.Support.{is_known, has_sibling};
 ghost use Rattle.paths.specs.Chains.{most_strips, most_prefixes};
 ghost use Rattle.analysis.specs.Supports.{is_alone, support_of, score_from, supports};
 
 use lookup::begins::Range;
 use lookup::lexicon::Lexicon;
+use ranking::scores::score_for;
 use sheet::letters::Letters;
 use tables::affix;
 
@@ -26,8 +27,7 @@ pub(crate) fn is_known(sheet: &Lexicon<'_>, range: Range, p: &[u8], q: &[u8]) ->
     requires { Begun sheet.now.bytes.now sheet.now.starts.now 0x77 p.now range }
     ensures { result ≡ is_known (replies sheet.now) (p.now ++ q.now) }
 {
-    let letters = sheet.letters_in(range, p, q);
-    letters.word || letters.head
+    sheet.letters_in(range, p, q).is_known()
 }
 
 // Whether the sheet knows the piece with one of the 25 texts appended. The lines whose names begin with the piece are known.
@@ -43,23 +43,12 @@ pub(crate) fn has_sibling(sheet: &Lexicon<'_>, range: Range, piece: &[u8]) -> bo
     false
 }
 
-// n where b holds, else nothing.
-fn points_for(b: bool, n: u16) -> u16
-    ensures { (result ≡ points b n) × (result ≤ n) }
-{
-    if b { n } else { 0 }
-}
-
 // The score of a reading whose root has this support: the surface has so many characters, and so many affixes are stripped.
 pub(crate) fn score(surface: u16, s: Support, prefixes: u8, suffixes: u8) -> u16
     requires { (surface ≤ 192) × (prefixes ≤ most_prefixes) × (suffixes ≤ most_strips) }
     ensures { result ≡ score_from surface s prefixes suffixes }
 {
-    let word = points_for(s.word, 100);
-    let head = points_for(s.head, 150);
-    let sibling = points_for(s.sibling, 60);
-    let any = points_for(0 < prefixes + suffixes, 10);
-    word + head + sibling + 20 * (prefixes as u16) + 15 * (suffixes as u16) + any + surface
+    score_for(s.word, s.head, s.sibling, prefixes, suffixes, surface)
 }
 
 // Whether a root of so many bytes with this support is supported: an empty one never is.

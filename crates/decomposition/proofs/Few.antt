@@ -1,15 +1,13 @@
--- How many labels parts have: at most one prefix, and no more suffixes than SUFFIXES has rows. Cited for the room that they need and
--- for their score. Assumes nothing.
-use mathlib.Core.Bool.{Bool, true, false}
+-- How many suffix labels parts have: no more than SUFFIXES has rows. Cited for the room that they need and for their score. Assumes
+-- nothing.
 use mathlib.Core.List.{List, [], ◌∷◌}
 use Prim.Native.Nat.{ℕ, suc, ◌+◌, ◌≤◌}
 use native.Mathlib.Omega.{arith}
 use lib.ListN.{length, drop, length-append}
-use Rattle.runs.specs.Runs.{pick}
 use Rattle.tables.specs.Rows.{prefix_forms, suffixes}
 use Rattle.tables.proofs.Facts.{suffix-count}
 use Rattle.sheet.specs.Replies.{Ask}
-use Rattle.decomposition.specs.Strips.{Stage, left_of, first_taken, taken, strip_row, strip_rows, least_root, leaves_word, first_front, front_at}
+use Rattle.decomposition.specs.Strips.{Stage, left_of, first_taken, taken, strip_row, strip_rows, least_root, first_front}
 use Rattle.decomposition.specs.Parts.{whole_stage, behind_front, decomposed_of}
 
 one_more : (k : ℕ) (rs : List (List ℕ)) (s : Stage) → length (taken k rs s).labels ≤ length s.labels + 1
@@ -25,23 +23,11 @@ rows_few ask least k (suffix ∷ rows) s =
     let m = one_more k (first_taken ask least (left_of ask s.piece suffix)) s in
     omega arith
 
-front-few : (ask : Ask) (w : List ℕ) (k : ℕ) (forms : List (List ℕ)) → (first_front ask w k forms).count ≤ 1
-front-few ask w k [] = omega arith
-front-few ask w k (form ∷ forms) = by (leaves_word ask w form) (front-few ask w (suc k) forms)
-  where
-    by : (b : Bool) → (first_front ask w (suc k) forms).count ≤ 1 → (pick b (front_at k (length form)) (first_front ask w (suc k) forms)).count ≤ 1
-    by true h = omega arith
-    by false h = h
-
 module _ (ask : Ask) (w : List ℕ) where
-  pub few-prefixes : (decomposed_of ask w).prefix_count ≤ 1
-  unfolding decomposed_of
-  few-prefixes = front-few ask w 0 prefix_forms
-
   pub few-suffixes : (decomposed_of ask w).suffix_count ≤ 24
   unfolding decomposed_of behind_front
   few-suffixes =
       let f = first_front ask w 0 prefix_forms in
-      let h = rows_few ask (least_root f.count) 0 suffixes (whole_stage (drop f.from w)) in
+      let h = rows_few ask (least_root f.prefix) 0 suffixes (whole_stage (drop f.from w)) in
       let n = suffix-count in
       omega arith

@@ -1,5 +1,6 @@
 -- Laws of the prefix that decompose strips. The proofs of the functions of `fronts` cite these. Assumes nothing.
-use Rattle.std.specs.Prelude.{None, Some}
+use Rattle.std.specs.Prelude.{None, Option, Some}
+use Rattle.std.specs.Bool.{then_some}
 use mathlib.Core.Path.{◌≡◌, refl, sym, ap, ◌∙◌}
 use mathlib.Core.Bool.{Bool, true, false, ◌&&◌}
 use mathlib.Core.List.{List, []}
@@ -13,6 +14,7 @@ use Rattle.sheet.specs.Replies.{Ask}
 use Rattle.runs.proofs.Begins.{and_left}
 use Rattle.strips.proofs.Remainders.{rest-inside}
 use Rattle.strips.specs.Prefix.{leaves, after, rest_of}
+use Rattle.decomposition.specs.declared.fronts.Front.{Front}
 use Rattle.decomposition.specs.Strips.{is_word, leaves_word, word_rest, first_front, front_at, no_front}
 
 -- a form that leaves something leaves it from its own length on
@@ -45,13 +47,17 @@ module _ (ask : Ask) (w form : List ℕ) where
     known : is_word ask (after w form) ≡ b
     known = ap (λ (m : ℕ). is_word ask (drop m w)) (sym (rest_from w form n e).1) ∙ ap (is_word ask) (sym (lent_rest w n)) ∙ sym k
 
-    pub rest_known : b ≡ true → Some n ≡ word_rest ask w form
+    rest_known : b ≡ true → Some n ≡ word_rest ask w form
     unfolding word_rest leaves_word
     rest_known t = rw ((rest_from w form n e).0, known, t) (ap Some (rest_from w form n e).1)
 
-    pub rest-unknown : b ≡ false → None ≡ word_rest ask w form
+    rest-unknown : b ≡ false → None ≡ word_rest ask w form
     unfolding word_rest leaves_word
     rest-unknown t = rw ((rest_from w form n e).0, known, t)
+
+  pub rest_told : (n : ℕ) → Some n ≡ rest_of w form → (b : Bool) → b ≡ is_word ask (take (length w - n) (drop n w)) → then_some b n ≡ word_rest ask w form
+  rest_told n e true k = rest_known n e true k refl
+  rest_told n e false k = rest-unknown n e false k refl
 
 -- what the rest of a form says of the first row
 word-from : (ask : Ask) (w form : List ℕ) (n : ℕ) → Some n ≡ word_rest ask w form → (leaves_word ask w form ≡ true) × (n ≡ length form)
@@ -97,6 +103,13 @@ module _ (ask : Ask) (w : List ℕ) (rows : List (List ℕ)) (k : ℕ) where
 
   pub front-end : length rows ≤ k → first_front ask w k (drop k rows) ≡ no_front
   front-end h = rw (drop_of_length-le rows h)
+
+-- a front with no prefix and nothing before it
+pub front_none : (f : Front) → f.prefix ≡ None → f.from ≡ 0 → f ≡ no_front
+front_none f p q = same p q
+  where
+    same : {a : Option ℕ} {b : ℕ} → a ≡ None → b ≡ 0 → ◌≡◌ {A = Front} (record { prefix = a; from = b }) no_front
+    same p q = cc
 
 -- a form without a rest leaves nothing
 pub rest_nothing : (w form : List ℕ) → None ≡ rest_of w form → leaves w form ≡ false

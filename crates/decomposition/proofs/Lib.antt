@@ -1,4 +1,5 @@
 pub mod Taken
+pub mod Rows
 pub mod Stages
 pub mod Leading
 pub mod Short

@@ -106,6 +106,6 @@ unfolding decomposed_of behind_front
 decomposed_root ask w =
     let f = first_front ask w 0 prefix_forms in
     let piece = drop f.from w in
-    let s = strip_rows ask (least_root f.count) 0 suffixes (whole_stage piece) in
+    let s = strip_rows ask (least_root f.prefix) 0 suffixes (whole_stage piece) in
     root_meant w f s.piece s.labels (front-inside ask w 0 prefix_forms)
-    (rows-front ask (least_root f.count) 0 suffixes piece (whole_stage piece) (front-whole piece))
+    (rows-front ask (least_root f.prefix) 0 suffixes piece (whole_stage piece) (front-whole piece))

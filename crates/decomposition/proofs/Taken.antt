@@ -33,6 +33,12 @@ pub none_if : (o : Option ℕ) → is_some o ≡ false → o ≡ None
 none_if None e = refl
 none_if (Some n) e = let z : ◌≡◌ {A = ℕ} 0 1 = cc in absurd (omega arith)
 
+pub none_is : (r : Rests) → r.plain ≡ None → r.shared ≡ None → r ≡ no_rests
+none_is r p q = same p q
+  where
+    same : {a b : Option ℕ} → a ≡ None → b ≡ None → ◌≡◌ {A = Rests} (record { plain = a; shared = b }) no_rests
+    same p q = cc
+
 none-counted : (piece suffix : List ℕ) → (rests_of piece suffix).plain ≡ None → rests_of piece suffix ≡ no_rests
 unfolding rests_of
 none-counted piece suffix e = go (sheds piece suffix) (is_long suffix) e

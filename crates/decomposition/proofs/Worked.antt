@@ -25,7 +25,7 @@ use Rattle.sheet.specs.Inputs.{inputs_of}
 use Rattle.origin.specs.Decisions.{known_in, known_by, known_rest, known_under, known_stem, decision_of}
 use Rattle.ranking.specs.Parts.{part}
 use Rattle.decomposition.specs.Strips.{is_word, label_row, least_root, is_kept, left_of, is_taken, strip_row, leaves_word}
-use Rattle.decomposition.specs.Parts.{behind_front, decomposed_of, morpheme_of}
+use Rattle.decomposition.specs.Parts.{prefixes_of, behind_front, decomposed_of, morpheme_of}
 use Rattle.decomposition.specs.declared.Morpheme.{Morpheme}
 use Rattle.decomposition.specs.Answers.{morpheme_answer}
 
@@ -54,7 +54,7 @@ given r p s o = record { root = r; prefixes = p; suffixes = s; origin = o; said 
 abbrev shown : List ℕ → Result Morpheme Refusal → Shown
 shown w (Ok m) = record {
   root = part w m.parts.start m.parts.end;
-  prefixes = map (λ k. get_or prefix_labels k []) (take m.parts.prefix_count (m.parts.prefix ∷ []));
+  prefixes = map (λ k. get_or prefix_labels k []) (prefixes_of m.parts.prefix);
   suffixes = map (λ k. get_or suffixes k []) (take m.parts.suffix_count m.parts.suffixes);
   origin = m.origin;
   said = Ok tt;

@@ -1,6 +1,6 @@
 -- A word in parts: a prefix label, a root, suffix labels (document 01, "Decompose"), and the parts that decompose finds. The root is
 -- a place in the word, a label is a row of its table. Assumes nothing.
-use Rattle.std.specs.Prelude.{ℕ, zero, suc, ◌+◌, List, [], ◌∷◌, length, drop}
+use Rattle.std.specs.Prelude.{ℕ, zero, suc, ◌+◌, List, [], ◌∷◌, length, drop, None, Option, Some}
 use Rattle.tables.specs.Rows.{prefix_forms, suffixes}
 use Rattle.sheet.specs.Replies.{Ask}
 use Rattle.ranking.specs.Parts.{part}
@@ -24,16 +24,24 @@ label_limit = 24
 abbrev pub whole_stage : List ℕ → Stage
 whole_stage piece = record { piece = piece; labels = [] }
 
--- the parts of a word behind a front: a root, by its text, and the rows of its labels
-abbrev pub parts_of : Front → List ℕ → List ℕ → Parts
-parts_of f root labels = record {
+-- the parts of a word behind a front: a root of so many bytes, and the rows of its labels
+abbrev pub parts_at : Front → ℕ → List ℕ → Parts
+parts_at f len labels = record {
   start = f.from;
-  end = f.from + length root;
-  prefix = f.row;
-  prefix_count = f.count;
+  end = f.from + len;
+  prefix = f.prefix;
   suffix_count = length labels;
   suffixes = filled label_limit labels;
 }
+
+-- the same of a root by its text
+abbrev pub parts_of : Front → List ℕ → List ℕ → Parts
+parts_of f root labels = parts_at f (length root) labels
+
+-- the rows of the labels of a prefix, one or none
+abbrev pub prefixes_of : Option ℕ → List ℕ
+prefixes_of None = []
+prefixes_of (Some row) = row ∷ []
 
 -- the root of parts of w
 abbrev pub root_text : List ℕ → Parts → List ℕ
@@ -41,7 +49,7 @@ root_text w p = part w p.start p.end
 
 -- the first prefix row, then every suffix row on what remains
 unfoldable pub behind_front : Ask → List ℕ → Front → Stage
-behind_front ask w f = strip_rows ask (least_root f.count) 0 suffixes (whole_stage (drop f.from w))
+behind_front ask w f = strip_rows ask (least_root f.prefix) 0 suffixes (whole_stage (drop f.from w))
 
 abbrev pub of_stage : Front → Stage → Parts
 of_stage f s = parts_of f s.piece s.labels

@@ -18,8 +18,9 @@ unfoldable pub label_row : ℕ → ℕ
 label_row k = pick (eqb k 23) 22 k
 
 -- the fewest characters of a remainder: 1, or 4 after a prefix
-unfoldable pub least_root : ℕ → ℕ
-least_root prefixCount = pick (eqb prefixCount 0) 1 4
+unfoldable pub least_root : Option ℕ → ℕ
+least_root None = 1
+least_root (Some row) = 4
 
 -- the extra rule for ई and ी keeps the piece whole
 unfoldable pub is_kept : Ask → List ℕ → List ℕ → Bool
@@ -63,12 +64,12 @@ abbrev pub strip_rows : Ask → ℕ → ℕ → List (List ℕ) → Stage → St
 strip_rows ask least k [] s = s
 strip_rows ask least k (suffix ∷ rows) s = strip_rows ask least (suc k) rows (strip_row ask least k suffix s)
 
--- What a prefix row leaves: how many prefixes were stripped, the row and the byte from which on the word is left.
+-- What a prefix row leaves: the row, where one was stripped, and the byte from which on the word is left.
 abbrev pub no_front : Front
-no_front = record { count = 0; row = 0; from = 0 }
+no_front = record { prefix = None; from = 0 }
 
 abbrev pub front_at : ℕ → ℕ → Front
-front_at k from = record { count = 1; row = k; from = from }
+front_at k from = record { prefix = Some k; from = from }
 
 -- a form leaves enough, and that is known by w
 unfoldable pub leaves_word : Ask → List ℕ → List ℕ → Bool

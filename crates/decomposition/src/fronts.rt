@@ -7,13 +7,12 @@ ghost use Rattle.decomposition.specs.Strips.{word_rest, first_front};
 use crate::suffixes::is_word;
 use lookup::lexicon::Lexicon;
 use strips::prefix::prefix_rest;
-use tables::prefix_form;
+use tables::prefix_rows;
 
-// What a prefix leaves of a word: how many prefixes were stripped, one or none, its row, and the byte from which on the word is left.
-#[derive(Clone, Copy)]
+// What a prefix leaves of a word: the prefix's row, where one was stripped, and the byte from which on the word is left.
+#[derive(Clone, Copy, Default)]
 pub struct Front {
-    pub count: u8,
-    pub row: u8,
+    pub prefix: Option<u8>,
     pub from: usize,
 }
 
@@ -21,35 +20,22 @@ pub struct Front {
 fn word_rest(sheet: &Lexicon<'_>, word: &[u8], form: &[u8]) -> Option<usize>
     ensures { result ≡ word_rest (replies sheet.now) word.now form.now }
 {
-    let rest = prefix_rest(word, form);
-    match rest {
-        None => None,
-        Some(n) => {
-            if is_word(sheet, &word[n..]) {
-                return Some(n);
-            }
-            None
-        }
-    }
+    let n = prefix_rest(word, form)?;
+    is_word(sheet, &word[n..]).then_some(n)
 }
 
 // The first prefix row that leaves something long enough which the sheet knows by w.
 pub(crate) fn first_front(sheet: &Lexicon<'_>, word: &[u8]) -> Front
     ensures { (result ≡ first_front (replies sheet.now) word.now 0 prefix_forms) × (result.from ≤ length word.now) }
 {
-    for k in 0..30 {
-        let form = prefix_form(k);
-        if let Some(n) = word_rest(sheet, word, form) {
+    let rows = prefix_rows();
+    for (k, row) in rows.iter().enumerate() {
+        if let Some(n) = word_rest(sheet, word, row.1.as_bytes()) {
             return Front {
-                count: 1,
-                row: k as u8,
+                prefix: Some(k as u8),
                 from: n,
             };
         }
     }
-    Front {
-        count: 0,
-        row: 0,
-        from: 0,
-    }
+    Front::default()
 }

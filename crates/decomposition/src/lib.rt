@@ -4,9 +4,9 @@
 ghost use Rattle.std.specs.Prelude.{◌≡◌, ◌+◌, ◌≤◌, ◌<◌, length};
 ghost use Rattle.lookup.specs.Lexicons.{replies};
 ghost use Rattle.decomposition.specs.Strips.{least_root};
-ghost use Rattle.decomposition.specs.Parts.{root_text, decomposed_of, morpheme_of};
+ghost use Rattle.decomposition.specs.Parts.{label_limit, parts_at, prefixes_of, root_text, decomposed_of, morpheme_of};
 
-use crate::fronts::first_front;
+use crate::fronts::{Front, first_front};
 use crate::suffixes::strip_rows;
 use lookup::lexicon::Lexicon;
 use origin::decide_origin;
@@ -18,15 +18,24 @@ pub mod fronts;
 pub mod suffixes;
 
 // A word in parts. The root is the word's bytes from `start` up to `end`; `prefix` is the row of a label of PREFIX_FORMS, where there
-// is one, and `suffixes` the rows of the labels of SUFFIXES in strip order; places that are not used are 0.
-#[derive(Clone, Copy)]
+// is one, and the first `suffix_count` of `suffixes` are the rows of the labels of SUFFIXES in strip order; places that are not used
+// are 0.
+#[derive(Clone, Copy, Default)]
 pub struct Parts {
     pub start: u8,
     pub end: u8,
-    pub prefix: u8,
-    pub prefix_count: u8,
+    pub prefix: Option<u8>,
     pub suffix_count: u8,
     pub suffixes: [u8; 24],
+}
+
+impl Parts {
+    // How many prefixes the word has: one or none.
+    pub fn prefix_count(&self) -> u8
+        ensures { (result ≡ length (prefixes_of self.now.prefix)) × (result ≤ 1) }
+    {
+        u8::from(self.prefix.is_some())
+    }
 }
 
 // A decomposition: the parts, and the origin of the whole word.
@@ -45,14 +54,32 @@ pub fn root_of<'w>(word: &'w [u8], p: Parts) -> &'w [u8]
     part_of(word, from, to)
 }
 
-// The fewest characters of a remainder: 1, or 4 after a prefix.
-pub fn least_root(prefix_count: u8) -> usize
-    ensures { result ≡ least_root prefix_count }
+// The parts of a word behind a front: a root of so many bytes, and the rows of its labels. Its end fits a byte, and no more labels
+// are given than SUFFIXES has rows.
+pub fn parts_at(front: Front, len: usize, labels: &[u8]) -> Parts
+    requires { (front.from + len < 256) × (length labels.now ≤ label_limit) }
+    ensures { result ≡ parts_at front len labels.now }
 {
-    if prefix_count == 0 {
-        return 1;
+    let mut suffixes = [0u8; 24];
+    suffixes[..labels.len()].copy_from_slice(labels);
+    Parts {
+        start: front.from as u8,
+        end: (front.from + len) as u8,
+        prefix: front.prefix,
+        suffix_count: labels.len() as u8,
+        suffixes,
     }
-    4
+}
+
+// The fewest characters of a remainder: 1, or 4 after a prefix.
+#[tactic(auto, unfolding(crate::specs::Strips::least_root))]
+pub fn least_root(prefix: Option<u8>) -> usize
+    ensures { result ≡ least_root prefix }
+{
+    match prefix {
+        None => 1,
+        Some(_) => 4,
+    }
 }
 
 // The parts that decompose finds by an accepted sheet. The word has at most 192 bytes.
@@ -61,18 +88,9 @@ pub fn decomposed(sheet: &Lexicon<'_>, word: &[u8]) -> Parts
     ensures { result ≡ decomposed_of (replies sheet.now) word.now }
 {
     let front = first_front(sheet, word);
-    let from = front.from;
-    let least = least_root(front.count);
-    let s = strip_rows(sheet, &word[from..], least);
-    let labels = s.labels;
-    Parts {
-        start: from as u8,
-        end: (from + s.len) as u8,
-        prefix: front.row,
-        prefix_count: front.count,
-        suffix_count: s.count,
-        suffixes: labels,
-    }
+    let least = least_root(front.prefix);
+    let s = strip_rows(sheet, &word[front.from..], least);
+    parts_at(front, s.len, s.labels.as_slice())
 }
 
 // The decomposition of a word by an accepted sheet. The word has at most 192 bytes.

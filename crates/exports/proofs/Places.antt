@@ -11,6 +11,7 @@ use lib.Dec.{leb}
 use Rattle.runs.specs.Runs.{pick}
 use Rattle.text.specs.Characters.{chars}
 use Rattle.tables.specs.Rows.{prefix_forms, suffixes}
+use Rattle.sheet.specs.Letters.{is_known}
 use Rattle.sheet.specs.Replies.{Ask, letters_by, reply}
 use Rattle.sheet.specs.Inputs.{inputs_of}
 use Rattle.sheet.specs.declared.letters.Letters.{Letters}
@@ -21,7 +22,7 @@ use Rattle.decomposition.specs.declared.Parts.{Parts}
 use Rattle.decomposition.specs.declared.fronts.Front.{Front}
 use Rattle.roots.specs.Rank.{ahead_of}
 use Rattle.roots.specs.Lists.{holds_in, ranked, once}
-use Rattle.roots.specs.Candidates.{is_known, candidate_by, kept_of, kept_all, parts_among, under_row, under_rows, bare, one_suffix, under_form, under_forms, offers, candidates}
+use Rattle.roots.specs.Candidates.{candidate_by, kept_of, kept_all, parts_among, under_row, under_rows, bare, one_suffix, under_form, under_forms, offers, candidates}
 use Rattle.roots.specs.Answers.{roots_if, roots_for}
 use Rattle.roots.specs.declared.RootCandidate.{RootCandidate}
 
@@ -75,8 +76,8 @@ module _ (ask : Ask) where
   unfolding under_row
   rows_full f piece k [] = tt
   rows_full f piece k (suffix ∷ rows) =
-      full_append (parts_among (least_root f.count) f (label_row k ∷ []) (left_of ask piece suffix)) (under_rows ask f piece (suc k) rows)
-      (among_full (least_root f.count) f (label_row k ∷ []) (left_of ask piece suffix))
+      full_append (parts_among (least_root f.prefix) f (label_row k ∷ []) (left_of ask piece suffix)) (under_rows ask f piece (suc k) rows)
+      (among_full (least_root f.prefix) f (label_row k ∷ []) (left_of ask piece suffix))
       (rows_full f piece (suc k) rows)
 
   module _ (w : List ℕ) where

@@ -14,6 +14,7 @@ use Rattle.text.specs.Utf8.{is_utf8}
 use Rattle.text.specs.Characters.{chars}
 use Rattle.tables.specs.Rows.{prefix_forms, suffixes, strip_suffixes}
 use Rattle.tables.proofs.Facts.{prefix_form_text, prefix_form_count, suffix_text, suffix-count, strip_suffix_text, strip_suffix_count}
+use Rattle.sheet.specs.Letters.{is_known}
 use Rattle.sheet.specs.Replies.{Ask, Reply, letters_told, letters_by}
 use Rattle.sheet.specs.declared.letters.Letters.{Letters}
 use Rattle.strips.specs.Suffix.{remainders, keeps_pronoun}
@@ -27,7 +28,7 @@ use Rattle.decomposition.specs.declared.fronts.Front.{Front}
 use Rattle.decomposition.specs.declared.Parts.{Parts}
 use Rattle.decomposition.proofs.Meant.{decomposed_root}
 use Rattle.roots.specs.Lists.{once}
-use Rattle.roots.specs.Candidates.{is_known, score_by, candidate_by, kept_of, kept_all, parts_among, under_row, under_rows, one_suffix, bare, under_form, under_forms, offers, candidates}
+use Rattle.roots.specs.Candidates.{score_by, candidate_by, kept_of, kept_all, parts_among, under_row, under_rows, one_suffix, bare, under_form, under_forms, offers, candidates}
 use Rattle.roots.specs.declared.RootCandidate.{RootCandidate}
 use Rattle.roots.proofs.Meant.{AllMeant, suffix_meant, bare_meant}
 use Rattle.paths.specs.Questions.{Part}
@@ -176,7 +177,7 @@ module _ (ask ask' : Ask) (w : List ℕ) (utf8 : is_utf8 w ≡ true) (agree : (p
 
   behind_same : (f : Front) → Part w (drop f.from w) → behind_front ask w f ≡ behind_front ask' w f
   unfolding behind_front
-  behind_same f t = rows_same (least_root f.count) 0 suffixes (whole_stage (drop f.from w)) suffix-texts t
+  behind_same f t = rows_same (least_root f.prefix) 0 suffixes (whole_stage (drop f.from w)) suffix-texts t
 
   pub decomposed_same : decomposed_of ask w ≡ decomposed_of ask' w
   unfolding decomposed_of
@@ -193,7 +194,7 @@ module _ (ask ask' : Ask) (w : List ℕ) (utf8 : is_utf8 w ≡ true) (agree : (p
 
   under_row_same : (f : Front) (piece : List ℕ) (k : ℕ) (suffix : List ℕ) → Part w piece → under_row ask f piece k suffix ≡ under_row ask' f piece k suffix
   unfolding under_row
-  under_row_same f piece k suffix t = ap (parts_among (least_root f.count) f (label_row k ∷ [])) (left_same piece suffix t)
+  under_row_same f piece k suffix t = ap (parts_among (least_root f.prefix) f (label_row k ∷ [])) (left_same piece suffix t)
 
   under_rows_same : (f : Front) (piece : List ℕ) (k : ℕ) (rows : List (List ℕ)) → Part w piece → under_rows ask f piece k rows ≡ under_rows ask' f piece k rows
   under_rows_same f piece k [] t = refl
@@ -241,7 +242,7 @@ module _ (ask ask' : Ask) (w : List ℕ) (utf8 : is_utf8 w ≡ true) (agree : (p
     under_rooted k [] a = tt
     under_rooted k (suffix ∷ rows) a =
         all_append Rooted (under_row ask f (drop f.from w) k suffix) (under_rows ask f (drop f.from w) (suc k) rows)
-        (among_rooted (least_root f.count) f (label_row k ∷ []) (left_of ask (drop f.from w) suffix)
+        (among_rooted (least_root f.prefix) f (label_row k ∷ []) (left_of ask (drop f.from w) suffix)
         (left-parts (drop f.from w) suffix t a.0) (suffix_meant w f h ask k suffix))
         (under_rooted (suc k) rows a.1)
 
@@ -280,7 +281,7 @@ module _ (ask ask' : Ask) (w : List ℕ) (utf8 : is_utf8 w ≡ true) (agree : (p
   decomposed_rooted =
       let f = first_front ask w 0 prefix_forms in
       subst (Part w) (sym (decomposed_root ask w))
-      (rows-part (least_root f.count) 0 suffixes (whole_stage (drop f.from w)) suffix-texts (behind-part 0 prefix_forms form_texts))
+      (rows-part (least_root f.prefix) 0 suffixes (whole_stage (drop f.from w)) suffix-texts (behind-part 0 prefix_forms form_texts))
 
   offers_rooted : All Rooted (offers ask w)
   unfolding offers

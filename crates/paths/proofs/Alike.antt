@@ -21,7 +21,8 @@ use Rattle.progressive.specs.Progressive.{is_progressive}
 use Rattle.lookup.specs.Answers.{kind_told}
 use Rattle.ranking.specs.declared.AffixKind.{AffixKind}
 use Rattle.ranking.specs.declared.Reading.{Reading}
-use Rattle.paths.specs.Support.{is_supported, score_for, score_of}
+use Rattle.ranking.specs.Scores.{score_for}
+use Rattle.paths.specs.Support.{is_supported, score_of}
 use Rattle.paths.specs.Chains.{all_forms, Strip, text_of, left_by, all_rows, rows_after, form_of}
 use Rattle.paths.specs.Readings.{group_kind, overridden, kind_of, segment_of, prefixes_of}
 use Rattle.paths.specs.Walk.{empty_chain, pushed_of, record_of, root_walk, on_left, over_forms, second_walk, stem_walk, strip_walk, rows_walk, piece_walk, word_walk}

@@ -10,7 +10,8 @@ use Rattle.text.specs.Utf8.{tail, within}
 use Rattle.text.specs.Characters.{opens, chars}
 use Rattle.runs.specs.Runs.{pick}
 use Rattle.sheet.specs.Replies.{Ask, letters_by}
-use Rattle.paths.specs.Support.{points, has_sibling, score_of}
+use Rattle.ranking.specs.Scores.{points}
+use Rattle.paths.specs.Support.{has_sibling, score_of}
 use Rattle.paths.specs.Chains.{Route, PathOf}
 use Rattle.paths.specs.Readings.{reading_of}
 

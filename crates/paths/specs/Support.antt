@@ -1,13 +1,14 @@
 -- Which roots are supported, and how a reading scores (document 01, "Strips, readings, rank"), said of replies. Assumes nothing.
-use Rattle.std.specs.Prelude.{ℕ, ◌+◌, ◌*◌, Bool, false, not, ◌&&◌, ◌||◌, List, [], ◌∷◌, ◌++◌, length, eqb, ltb}
-use Rattle.runs.specs.Runs.{pick}
+use Rattle.std.specs.Prelude.{ℕ, Bool, false, not, ◌&&◌, ◌||◌, List, [], ◌∷◌, ◌++◌, length, eqb}
 use Rattle.tables.specs.Tables.{affixes}
+use Rattle.sheet.specs.Letters.{is_known as known_by}
 use Rattle.sheet.specs.Replies.{Ask, letters_by}
 use Rattle.progressive.specs.Progressive.{is_progressive}
+use Rattle.ranking.specs.Scores.{score_for}
 
 -- the sheet knows a name: by w or by h
 abbrev pub is_known : Ask → List ℕ → Bool
-is_known ask name = (letters_by ask name).word || (letters_by ask name).head
+is_known ask name = known_by (letters_by ask name)
 
 -- it knows the name with one of the texts appended
 unfoldable pub known_with : Ask → List ℕ → List (List ℕ) → Bool
@@ -21,15 +22,6 @@ has_sibling ask name = known_with ask name affixes
 -- an empty root is never supported; any other is if it is known, or an appended form is, or it is a supported progressive form
 unfoldable pub is_supported : Ask → List ℕ → Bool
 is_supported ask root = not (eqb (length root) 0) && (is_known ask root || has_sibling ask root || is_progressive ask root)
-
-abbrev pub points : Bool → ℕ → ℕ
-points b n = pick b n 0
-
--- w 100, h 150, appended form known 60, 20 a prefix, 15 a suffix, 10 if any affix, and the characters of the surface
-abbrev pub score_for : Bool → Bool → Bool → ℕ → ℕ → ℕ → ℕ
-score_for word head sibling prefixes suffixes surface =
-    points word 100 + points head 150 + points sibling 60
-    + 20 * prefixes + 15 * suffixes + points (ltb 0 (prefixes + suffixes)) 10 + surface
 
 -- the score of a root with so many affixes
 unfoldable pub score_of : Ask → ℕ → List ℕ → ℕ → ℕ → ℕ

@@ -3,6 +3,7 @@
 
 pub mod kept;
 pub mod rows;
+pub mod scores;
 
 ghost use Rattle.std.specs.Prelude.{◌≡◌, length, take, drop};
 ghost use Rattle.ranking.specs.Parts.{part};

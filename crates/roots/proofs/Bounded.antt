@@ -17,6 +17,7 @@ use Rattle.tables.specs.Rows.{prefix_forms, suffixes}
 use Rattle.tables.proofs.Facts.{suffix-count, prefix_form_count}
 use Rattle.tables.proofs.Matches.{two_suffixes, two_prefix_forms}
 use Rattle.tables.proofs.Passing.{passing, two}
+use Rattle.sheet.specs.Letters.{is_known}
 use Rattle.sheet.specs.Replies.{Ask, letters_by, reply}
 use Rattle.sheet.specs.Inputs.{inputs_of}
 use Rattle.sheet.specs.declared.letters.Letters.{Letters}
@@ -29,7 +30,7 @@ use Rattle.decomposition.specs.declared.fronts.Front.{Front}
 use Rattle.roots.specs.Rank.{ahead_of}
 use Rattle.roots.specs.Lists.{holds_in, ranked, once, root_limit}
 use Rattle.roots.specs.Room.{once_within, held_of, held_all}
-use Rattle.roots.specs.Candidates.{is_known, candidate_by, kept_of, kept_all, parts_among, under_row, under_rows, bare, one_suffix, under_form, under_forms, offers, candidates}
+use Rattle.roots.specs.Candidates.{candidate_by, kept_of, kept_all, parts_among, under_row, under_rows, bare, one_suffix, under_form, under_forms, offers, candidates}
 use Rattle.roots.specs.Answers.{roots_if, roots_for}
 use Rattle.roots.proofs.Offered.{held-append}
 use Rattle.roots.specs.declared.RootCandidate.{RootCandidate}
@@ -70,8 +71,8 @@ rows_few : (ask : Ask) (f : Front) (piece : List ℕ) (k : ℕ) (rows : List (Li
 unfolding under_row
 rows_few ask f piece k [] = omega arith
 rows_few ask f piece k (suffix ∷ rows) =
-    let u = parts_among (least_root f.count) f (label_row k ∷ []) (left_of ask piece suffix) in
-    let a = among-few (least_root f.count) f (label_row k ∷ []) (left_of ask piece suffix) in
+    let u = parts_among (least_root f.prefix) f (label_row k ∷ []) (left_of ask piece suffix) in
+    let a = among-few (least_root f.prefix) f (label_row k ∷ []) (left_of ask piece suffix) in
     let b = left-few ask piece suffix in
     let h = rows_few ask f piece (suc k) rows in
     rw (length-append u (under_rows ask f piece (suc k) rows)) (omega arith)

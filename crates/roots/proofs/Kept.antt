@@ -1,15 +1,16 @@
 -- Laws of the list: one candidate more, once, in its place. The proofs of the functions of `list` cite these; those that hold for any
 -- element are `ranking`'s. Assumes nothing.
-use Prim.Native.Nat.{ℕ, suc, ◌+◌, ◌<◌, ◌≤◌}
+use Prim.Native.Nat.{ℕ, suc, ◌+◌, ◌<◌}
 use native.Mathlib.Omega.{arith}
 use mathlib.Core.Path.{◌≡◌, refl, sym, ap, ◌∙◌}
-use mathlib.Core.Bool.{Bool, true, false, cond, not}
+use mathlib.Core.Bool.{Bool, true, false, cond, not, ◌||◌}
 use mathlib.Core.List.{List, [], ◌∷◌}
-use native.Mathlib.Numerals.{add-one}
-use lib.ListN.{length, drop, get_or, drop_of_length-le}
-use lib.Seq.{drop-cons}
+use lib.ListN.{length}
 use borrow.Author.Tests.{lt-ltb}
-use Rattle.std.specs.List.{insert, position_or_len}
+use Rattle.std.specs.List.{insert, list_any, position_or_len}
+use Rattle.std.specs.Ordering.{is_eq}
+use Rattle.std.specs.declared.cmp.Ordering.{Ordering}
+use Rattle.std.specs.declared.cmp.Ordering.TheVariants.{Less, Equal, Greater}
 use Rattle.runs.specs.Runs.{pick}
 use Rattle.decomposition.specs.declared.Parts.{Parts}
 use Rattle.roots.specs.Rank.{is_equal, key_order, ahead_of}
@@ -17,20 +18,17 @@ use Rattle.roots.specs.Lists.{holds_in, ranked, root_limit}
 use Rattle.roots.specs.Room.{once_within}
 use Rattle.roots.specs.declared.RootCandidate.{RootCandidate}
 
--- a turn of the search for the same root and labels
-module _ (w : List ℕ) (p : Parts) where
-  pub holds_here : (rs : List RootCandidate) (i : ℕ) (d : RootCandidate) → i < length rs → is_equal (key_order w p (get_or rs i d).parts) ≡ true → holds_in w p (drop i rs) ≡ true
-  unfolding holds_in
-  holds_here rs i d h e = rw (drop-cons rs i d h, e) refl
-
-  pub holds_next : (rs : List RootCandidate) (i : ℕ) (d : RootCandidate) → i < length rs → is_equal (key_order w p (get_or rs i d).parts) ≡ false
-      → holds_in w p (drop i rs) ≡ holds_in w p (drop (i + 1) rs)
-  unfolding holds_in
-  holds_next rs i d h e = rw (add-one, drop-cons rs i d h, e) refl
-
-  pub holds_none : (rs : List RootCandidate) (i : ℕ) → length rs ≤ i → holds_in w p (drop i rs) ≡ false
-  unfolding holds_in
-  holds_none rs i h = rw (drop_of_length-le rs h) refl
+-- some row has the same root and labels, as std's `any` says it
+pub holds_any : (w : List ℕ) (p : Parts) (xs : List RootCandidate) → holds_in w p xs ≡ list_any (λ x. is_eq (key_order w p x.parts)) xs
+unfolding holds_in
+holds_any w p [] = refl
+holds_any w p (x ∷ xs) = by (key_order w p x.parts) (holds_any w p xs)
+  where
+    by : (o : Ordering) → holds_in w p xs ≡ list_any (λ x. is_eq (key_order w p x.parts)) xs
+        → pick (is_equal o) true (holds_in w p xs) ≡ (is_eq o || list_any (λ x. is_eq (key_order w p x.parts)) xs)
+    by Less e = e
+    by Equal e = refl
+    by Greater e = e
 
 -- a candidate in its place by rank is put in at the first row that it is ahead of
 module _ (w : List ℕ) (r : RootCandidate) where

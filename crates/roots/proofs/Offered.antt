@@ -14,6 +14,7 @@ use borrow.Author.Tests.{le-leb, lt-leb}
 use Rattle.runs.specs.Runs.{pick}
 use Rattle.text.specs.Characters.{chars}
 use Rattle.tables.specs.declared.origins.Origin.{Origin}
+use Rattle.sheet.specs.Letters.{is_known}
 use Rattle.sheet.specs.Replies.{Ask, reply, letters_for, letters_by}
 use Rattle.sheet.specs.declared.letters.Letters.{Letters}
 use Rattle.strips.specs.Suffix.{front, fronts}
@@ -21,14 +22,15 @@ use Rattle.strips.specs.declared.suffix.Rests.{Rests}
 use Rattle.strips.specs.Prefix.{leaves, rest_of}
 use Rattle.origin.specs.Decisions.{decision_of}
 use Rattle.origin.specs.declared.OriginDecision.{OriginDecision}
+use Rattle.ranking.specs.Scores.{score_for}
 use Rattle.decomposition.specs.Strips.{label_row, least_root, left_of, open_rests, front_at}
-use Rattle.decomposition.specs.Parts.{root_text, parts_of, filled}
+use Rattle.decomposition.specs.Parts.{root_text, prefixes_of, parts_at, parts_of}
 use Rattle.decomposition.specs.declared.Parts.{Parts}
 use Rattle.decomposition.specs.declared.fronts.Front.{Front}
 use Rattle.decomposition.proofs.Taken.{own_letters, open_say}
 use Rattle.decomposition.proofs.Leading.{rest_from, rest_nothing}
 use Rattle.roots.specs.Room.{once_within, held_of, held_all}
-use Rattle.roots.specs.Candidates.{is_known, score_by, candidate_by, parts_among, under_row, under_rows, bare, one_suffix, under_form, under_forms}
+use Rattle.roots.specs.Candidates.{score_by, candidate_by, parts_among, under_row, under_rows, bare, one_suffix, under_form, under_forms}
 use Rattle.roots.specs.declared.RootCandidate.{RootCandidate}
 
 -- One root with its labels.
@@ -39,11 +41,16 @@ same_candidate : {s t : ℕ} {p : Parts} {o u : Origin} {a b : Bool} → s ≡ t
     (record { score = t; parts = p; origin = u; known_word = a; known_headword = b })
 same_candidate e f = cc
 
+-- the score as the code asks for it, of so many prefixes
+pub scored : (surface : ℕ) (l : Letters) (n m suffixes score : ℕ) → n ≡ m → score ≡ score_for l.word l.head false n suffixes surface → score ≡ score_by surface l m suffixes
+unfolding score_by
+scored surface l n m suffixes score e q = q ∙ ap (λ (x : ℕ). score_for l.word l.head false x suffixes surface) e
+
 module _ (s w : List ℕ) (p : Parts) (l : Letters) (root : List ℕ) (e : l ≡ letters_for s (root ++ [])) (r : root ≡ root_text w p) where
   root-letters : l ≡ letters_by (reply s) (root_text w p)
   root-letters = own_letters s root l e ∙ ap (letters_by (reply s)) r
 
-  pub candidate_is : (score surface : ℕ) (d : OriginDecision) → score ≡ score_by surface l p.prefix_count p.suffix_count → surface ≡ chars w
+  pub candidate_is : (score surface : ℕ) (d : OriginDecision) → score ≡ score_by surface l (length (prefixes_of p.prefix)) p.suffix_count → surface ≡ chars w
       → d ≡ decision_of (reply s) root
       → ◌≡◌ {A = RootCandidate}
       (record { score = score; parts = p; origin = d.origin; known_word = l.word; known_headword = l.head })
@@ -51,7 +58,7 @@ module _ (s w : List ℕ) (p : Parts) (l : Letters) (root : List ℕ) (e : l ≡
   unfolding candidate_by
   candidate_is score surface d q n f =
       same_candidate
-      (q ∙ ap (λ (x : ℕ). score_by x l p.prefix_count p.suffix_count) n)
+      (q ∙ ap (λ (x : ℕ). score_by x l (length (prefixes_of p.prefix)) p.suffix_count) n)
       (ap (λ (x : OriginDecision). x.origin) (f ∙ ap (decision_of (reply s)) r))
 
   pub offer_unknown : (n : ℕ) (xs : List RootCandidate) → is_known l ≡ false → xs ≡ held_of n (reply s) w xs p
@@ -90,18 +97,13 @@ module _ (n : ℕ) (ask : Ask) (w : List ℕ) where
 -- One remainder.
 
 -- the parts that the code makes of a front, a number of bytes and a label
-pub one_label : (w : List ℕ) (f : Front) (len label k : ℕ) → f.from + len ≤ length w → label ≡ label_row k
-    → ◌≡◌ {A = Parts}
-    (record { start = f.from; end = f.from + len; prefix = f.row; prefix_count = f.count; suffix_count = 1; suffixes = filled 24 (label ∷ []) })
-    (parts_of f (take len (drop f.from w)) (label_row k ∷ []))
-one_label w f len label k h e =
+pub one_label : (w : List ℕ) (f : Front) (len label k : ℕ) (p : Parts) → f.from + len ≤ length w → label ≡ label_row k → p ≡ parts_at f len (label ∷ [])
+    → p ≡ parts_of f (take len (drop f.from w)) (label_row k ∷ [])
+one_label w f len label k p h e q =
     let m : len ≤ length (drop f.from w) = rw (length-drop f.from w) (omega arith) in
-    same_parts (sym (length-take-le len (drop f.from w) m)) e
-  where
-    same_parts : {m : ℕ} {x y : ℕ} → len ≡ m → x ≡ y → ◌≡◌ {A = Parts}
-        (record { start = f.from; end = f.from + len; prefix = f.row; prefix_count = f.count; suffix_count = 1; suffixes = filled 24 (x ∷ []) })
-        (record { start = f.from; end = f.from + m; prefix = f.row; prefix_count = f.count; suffix_count = 1; suffixes = filled 24 (y ∷ []) })
-    same_parts p q = rw (p, q)
+    q
+    ∙ ap (λ (x : ℕ). parts_at f len (x ∷ [])) e
+    ∙ ap (λ (n : ℕ). parts_at f n (label_row k ∷ [])) (sym (length-take-le len (drop f.from w) m))
 
 module _ (n : ℕ) (ask : Ask) (w : List ℕ) (xs : List RootCandidate) (least : ℕ) (f : Front) (labels r : List ℕ) where
   pub rest-few : chars r < least → xs ≡ held_all n ask w xs (parts_among least f labels (r ∷ []))
@@ -134,24 +136,20 @@ module _ (n : ℕ) (ask : Ask) (w : List ℕ) (xs : List RootCandidate) (least :
       ∙ sym (held-append n ask w xs u v)
       ∙ ap (held_all n ask w xs) (sym (among-append least f labels (front piece r.plain) (front piece r.shared)))
 
-  pub rests_none : r.plain ≡ None → r.shared ≡ None → xs ≡ held_all n ask w xs (parts_among least f labels (fronts piece r))
-  unfolding held_all
-  rests_none p q = rw (p, q)
-
 -- All rows.
 
 module _ (n : ℕ) (ask : Ask) (w : List ℕ) (f : Front) (piece : List ℕ) (rows : List (List ℕ)) (k : ℕ) where
   pub under_turn : (xs ys : List RootCandidate) (suffix : List ℕ) (r : Rests) → k < length rows → suffix ≡ get_or rows k [] → r ≡ open_rests ask piece suffix
-      → ys ≡ held_all n ask w xs (parts_among (least_root f.count) f (label_row k ∷ []) (fronts piece r))
+      → ys ≡ held_all n ask w xs (parts_among (least_root f.prefix) f (label_row k ∷ []) (fronts piece r))
       → held_all n ask w xs (under_rows ask f piece k (drop k rows)) ≡ held_all n ask w ys (under_rows ask f piece (k + 1) (drop (k + 1) rows))
   unfolding under_row
   under_turn xs ys suffix r h e o q =
       let ls = label_row k ∷ [] in
       let z : fronts piece r ≡ left_of ask piece (get_or rows k []) = ap (fronts piece) o ∙ open_say ask piece suffix ∙ ap (left_of ask piece) e in
-      let y : ys ≡ held_all n ask w xs (parts_among (least_root f.count) f ls (left_of ask piece (get_or rows k []))) =
-      q ∙ ap (λ (l : List (List ℕ)). held_all n ask w xs (parts_among (least_root f.count) f ls l)) z in
+      let y : ys ≡ held_all n ask w xs (parts_among (least_root f.prefix) f ls (left_of ask piece (get_or rows k []))) =
+      q ∙ ap (λ (l : List (List ℕ)). held_all n ask w xs (parts_among (least_root f.prefix) f ls l)) z in
       rw (add-one, drop-cons rows k [])
-      (held-append n ask w xs (parts_among (least_root f.count) f ls (left_of ask piece (get_or rows k []))) (under_rows ask f piece (suc k) (drop (suc k) rows))
+      (held-append n ask w xs (parts_among (least_root f.prefix) f ls (left_of ask piece (get_or rows k []))) (under_rows ask f piece (suc k) (drop (suc k) rows))
       ∙ ap (λ (l : List RootCandidate). held_all n ask w l (under_rows ask f piece (suc k) (drop (suc k) rows))) (sym y))
 
   pub under_end : (xs : List RootCandidate) → length rows ≤ k → held_all n ask w xs (under_rows ask f piece k (drop k rows)) ≡ xs
@@ -159,20 +157,6 @@ module _ (n : ℕ) (ask : Ask) (w : List ℕ) (f : Front) (piece : List ℕ) (ro
   under_end xs h = rw (drop_of_length-le rows h)
 
 -- All forms.
-
--- a front with no suffix, as the code makes it
-pub bare_is : (w : List ℕ) (f : Front) → f.from ≤ length w
-    → ◌≡◌ {A = Parts}
-    (record { start = f.from; end = length w; prefix = f.row; prefix_count = f.count; suffix_count = 0; suffixes = filled 24 [] })
-    (bare w f)
-bare_is w f h =
-    let e : length w ≡ f.from + length (drop f.from w) = rw (length-drop f.from w) (omega arith) in
-    same_parts e
-  where
-    same_parts : {m : ℕ} → length w ≡ m → ◌≡◌ {A = Parts}
-        (record { start = f.from; end = length w; prefix = f.row; prefix_count = f.count; suffix_count = 0; suffixes = filled 24 [] })
-        (record { start = f.from; end = m; prefix = f.row; prefix_count = f.count; suffix_count = 0; suffixes = filled 24 [] })
-    same_parts p = rw p
 
 module _ (n : ℕ) (ask : Ask) (w : List ℕ) (rows : List (List ℕ)) (k : ℕ) where
   pub forms-some : (xs ys : List RootCandidate) (form : List ℕ) (from : ℕ) → k < length rows → form ≡ get_or rows k [] → Some from ≡ rest_of w form

@@ -11,12 +11,13 @@ use Rattle.std.specs.declared.cmp.Ordering.TheVariants.{Less, Equal, Greater}
 use Rattle.runs.proofs.Ordered.{turned, cmp_trans, cmp_turned, cmp_equal}
 use Rattle.text.specs.Characters.{chars}
 use Rattle.ranking.specs.Rank.{is_less}
+use Rattle.sheet.specs.Letters.{is_known}
 use Rattle.sheet.specs.Replies.{Ask, letters_by}
 use Rattle.decomposition.specs.declared.Parts.{Parts}
 use Rattle.decomposition.specs.Parts.{root_text}
 use Rattle.roots.specs.Rank.{is_equal, then_by, descending, having, cmp_texts, prefix_texts, suffix_texts, key_order, rank_of, ahead_of}
 use Rattle.roots.specs.Lists.{holds_in, ranked, once}
-use Rattle.roots.specs.Candidates.{is_known, candidate_by, kept_of, kept_all, offers, candidates}
+use Rattle.roots.specs.Candidates.{candidate_by, kept_of, kept_all, offers, candidates}
 use Rattle.roots.specs.declared.RootCandidate.{RootCandidate}
 
 -- an order by three laws: turned round it is turned, what stands alike compares alike, and it is transitive

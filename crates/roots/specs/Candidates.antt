@@ -1,43 +1,35 @@
 -- Root candidates (document 01, "Root candidates"): what is offered, what is kept of it, and the record of each. It is said of
 -- replies, so that two sheets which reply alike are the same to it. Assumes nothing.
-use Rattle.std.specs.Prelude.{ℕ, suc, ◌+◌, ◌*◌, Bool, true, List, [], ◌∷◌, ◌++◌, length, drop, leb, ltb}
+use Rattle.std.specs.Prelude.{ℕ, suc, false, List, [], ◌∷◌, ◌++◌, length, drop, leb}
 use Rattle.runs.specs.Runs.{pick}
 use Rattle.text.specs.Characters.{chars}
 use Rattle.tables.specs.Rows.{prefix_forms, suffixes}
+use Rattle.sheet.specs.Letters.{is_known}
 use Rattle.sheet.specs.Replies.{Ask, letters_by}
 use Rattle.sheet.specs.declared.letters.Letters.{Letters}
 use Rattle.strips.specs.Prefix.{leaves}
 use Rattle.origin.specs.Decisions.{decision_of}
+use Rattle.ranking.specs.Scores.{score_for}
 use Rattle.decomposition.specs.Strips.{label_row, least_root, left_of, no_front, front_at}
-use Rattle.decomposition.specs.Parts.{root_text, parts_of, decomposed_of}
+use Rattle.decomposition.specs.Parts.{root_text, prefixes_of, parts_of, decomposed_of}
 use Rattle.decomposition.specs.declared.Parts.{Parts}
 use Rattle.decomposition.specs.declared.fronts.Front.{Front}
 use Rattle.roots.specs.Lists.{once}
 use Rattle.roots.specs.declared.RootCandidate.{RootCandidate}
 
--- n where b holds, else nothing
-abbrev pub points : Bool → ℕ → ℕ
-points b n = pick b n 0
-
--- the score of parts of a word of so many characters, whose root has these letters: w 100, h 150, 20 a prefix, 15 a suffix, 10 if
--- any affix, plus the characters of the surface
+-- the score of parts of a word of so many characters, whose root has these letters: that of a reading, where no appended form counts
 unfoldable pub score_by : ℕ → Letters → ℕ → ℕ → ℕ
-score_by surface l prefixes suffixes =
-    points l.word 100 + points l.head 150 + 20 * prefixes + 15 * suffixes + points (ltb 0 (prefixes + suffixes)) 10 + surface
+score_by surface l prefixes suffixes = score_for l.word l.head false prefixes suffixes surface
 
 -- the record of parts of w; origin is the root's
 unfoldable pub candidate_by : Ask → List ℕ → Parts → Letters → RootCandidate
 candidate_by ask w p l = record {
-  score = score_by (chars w) l p.prefix_count p.suffix_count;
+  score = score_by (chars w) l (length (prefixes_of p.prefix)) p.suffix_count;
   parts = p;
   origin = (decision_of ask (root_text w p)).origin;
   known_word = l.word;
   known_headword = l.head;
 }
-
--- known by w or h
-abbrev pub is_known : Letters → Bool
-is_known l = pick l.word true l.head
 
 -- parts are offered: kept where their root is known, each root, prefixes, suffixes once
 abbrev pub kept_by : Ask → List ℕ → Parts → Letters → List RootCandidate → List RootCandidate
@@ -57,7 +49,7 @@ parts_among least f labels (r ∷ rs) = pick (leb least (chars r)) (parts_of f r
 
 -- one suffix, row k, stripped from what stands behind a front
 unfoldable pub under_row : Ask → Front → List ℕ → ℕ → List ℕ → List Parts
-under_row ask f piece k suffix = parts_among (least_root f.count) f (label_row k ∷ []) (left_of ask piece suffix)
+under_row ask f piece k suffix = parts_among (least_root f.prefix) f (label_row k ∷ []) (left_of ask piece suffix)
 
 -- each suffix row, the first of them row k
 abbrev pub under_rows : Ask → Front → List ℕ → ℕ → List (List ℕ) → List Parts

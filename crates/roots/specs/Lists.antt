@@ -1,5 +1,5 @@
 -- The list of candidates in rank order, each root with its prefixes and suffixes once. Assumes nothing.
-use Rattle.std.specs.Prelude.{ℕ, Bool, true, false, List, [], ◌∷◌}
+use Rattle.std.specs.Prelude.{ℕ, Bool, true, false, None, List, [], ◌∷◌}
 use Rattle.runs.specs.Runs.{pick}
 use Rattle.tables.specs.declared.origins.Origin.TheVariants.{Tatsam}
 use Rattle.decomposition.specs.declared.Parts.{Parts}
@@ -33,7 +33,7 @@ once w r xs = pick (holds_in w r.parts xs) xs (ranked w r xs)
 abbrev pub no_candidate : RootCandidate
 no_candidate = record {
   score = 0;
-  parts = record { start = 0; end = 0; prefix = 0; prefix_count = 0; suffix_count = 0; suffixes = [] };
+  parts = record { start = 0; end = 0; prefix = None; suffix_count = 0; suffixes = [] };
   origin = Tatsam;
   known_word = false;
   known_headword = false;

@@ -7,7 +7,7 @@ use Rattle.std.specs.declared.cmp.Ordering.TheVariants.{Less, Equal, Greater}
 use Rattle.text.specs.Characters.{chars}
 use Rattle.tables.specs.Rows.{suffixes, prefix_labels}
 use Rattle.ranking.specs.Rank.{is_less}
-use Rattle.decomposition.specs.Parts.{root_text}
+use Rattle.decomposition.specs.Parts.{root_text, prefixes_of}
 use Rattle.decomposition.specs.declared.Parts.{Parts}
 use Rattle.roots.specs.declared.RootCandidate.{RootCandidate}
 
@@ -45,7 +45,7 @@ abbrev pub text_of : List (List ℕ) → ℕ → List ℕ
 text_of rows k = get_or rows k []
 
 abbrev pub prefix_texts : Parts → List (List ℕ)
-prefix_texts p = map (text_of prefix_labels) (take p.prefix_count (p.prefix ∷ []))
+prefix_texts p = map (text_of prefix_labels) (prefixes_of p.prefix)
 
 abbrev pub suffix_texts : Parts → List (List ℕ)
 suffix_texts p = map (text_of suffixes) (take p.suffix_count p.suffixes)

@@ -2,12 +2,13 @@
 -- Assumes nothing.
 use Rattle.std.specs.Prelude.{ℕ, List, [], ◌∷◌, length, ltb}
 use Rattle.runs.specs.Runs.{pick}
+use Rattle.sheet.specs.Letters.{is_known}
 use Rattle.sheet.specs.Replies.{Ask, letters_by}
 use Rattle.sheet.specs.declared.letters.Letters.{Letters}
 use Rattle.decomposition.specs.Parts.{root_text}
 use Rattle.decomposition.specs.declared.Parts.{Parts}
 use Rattle.roots.specs.Lists.{holds_in, ranked}
-use Rattle.roots.specs.Candidates.{is_known, candidate_by}
+use Rattle.roots.specs.Candidates.{candidate_by}
 use Rattle.roots.specs.declared.RootCandidate.{RootCandidate}
 
 -- `once` in a list with room for n

@@ -18,33 +18,13 @@ pub mod offers;
 pub mod order;
 
 // A candidate: its root and labels, the origin of the root, whether the sheet knows the root by w and by h, and its score.
-#[derive(Clone, Copy)]
+#[derive(Clone, Copy, Default)]
 pub struct RootCandidate {
     pub score: u16,
     pub parts: Parts,
     pub origin: Origin,
     pub known_word: bool,
     pub known_headword: bool,
-}
-
-// What stands in a place that is not used.
-impl Default for RootCandidate {
-    fn default() -> RootCandidate {
-        RootCandidate {
-            score: 0,
-            parts: Parts {
-                start: 0,
-                end: 0,
-                prefix: 0,
-                prefix_count: 0,
-                suffix_count: 0,
-                suffixes: [0; 24],
-            },
-            origin: Origin::Deshaj,
-            known_word: false,
-            known_headword: false,
-        }
-    }
 }
 
 // The most candidates of a word.

@@ -8,26 +8,20 @@ ghost use Rattle.roots.specs.Room.{once_within};
 use crate::order::{key_order, rank};
 use crate::{RootCandidate, Roots};
 use decomposition::Parts;
-use std::cmp::Ordering;
 
 // Whether candidate a comes before b.
 #[tactic(auto, unfolding(crate::specs::Rank::ahead_of))]
 fn ahead(word: &[u8], a: RootCandidate, b: RootCandidate) -> bool
     ensures { result ≡ ahead_of word.now a b }
 {
-    matches!(rank(word, a, b), Ordering::Less)
+    rank(word, a, b).is_lt()
 }
 
 // Whether some row has this root, these prefixes and these suffixes.
 fn holds(word: &[u8], rows: &[RootCandidate], p: Parts) -> bool
     ensures { result ≡ holds_in word.now p rows.now }
 {
-    for &row in rows {
-        if key_order(word, p, row.parts).is_eq() {
-            return true;
-        }
-    }
-    false
+    rows.iter().any(|row| key_order(word, p, row.parts).is_eq())
 }
 
 // The first row that r is ahead of, or how many there are where there is none.
@@ -43,10 +37,7 @@ fn place(word: &[u8], rows: &[RootCandidate], r: RootCandidate) -> usize
 pub(crate) fn add(word: &[u8], list: &mut Roots, r: RootCandidate)
     ensures { list.new.items ≡ once_within root_limit word.now r list.old.items }
 {
-    if holds(word, list.as_slice(), r.parts) {
-        return;
-    }
-    if list.is_full() {
+    if holds(word, list.as_slice(), r.parts) || list.is_full() {
         return;
     }
     let at = place(word, list.as_slice(), r);

@@ -7,59 +7,42 @@ ghost use Rattle.strips.specs.Suffix.{front as left_front, fronts};
 ghost use Rattle.strips.proofs.Remainders.{Inside};
 ghost use Rattle.decomposition.specs.Strips.{label_row, least_root, no_front};
 ghost use Rattle.roots.specs.Lists.{root_limit};
-ghost use Rattle.roots.specs.Candidates.{points, is_known, score_by, parts_among, one_suffix, bare, under_forms};
+ghost use Rattle.roots.specs.Candidates.{parts_among, one_suffix, bare, under_forms};
 ghost use Rattle.roots.specs.Room.{held_of, held_all};
 
 use crate::list::add;
 use crate::{RootCandidate, Roots};
 use decomposition::fronts::Front;
 use decomposition::suffixes::{label_row, open_rests};
-use decomposition::{Parts, least_root, root_of};
+use decomposition::{Parts, least_root, parts_at, root_of};
 use lookup::asked::Asked;
 use origin::decide_origin;
-use sheet::letters::Letters;
+use ranking::scores::score_for;
 use strips::prefix::prefix_rest;
 use strips::suffix::Rests;
-use tables::{prefix_form, suffix};
-
-// n where b holds, else nothing.
-fn points_for(b: bool, n: u16) -> u16
-    ensures { (result ≡ points b n) × (result ≤ n) }
-{
-    if b { n } else { 0 }
-}
-
-// Whether a root with these letters is known, by w or by h.
-fn is_known(letters: Letters) -> bool
-    ensures { result ≡ is_known letters }
-{
-    letters.word || letters.head
-}
-
-// The score of a root with these letters: the surface has so many characters, and so many affixes are stripped.
-fn score(surface: u16, letters: Letters, prefixes: u8, suffixes: u8) -> u16
-    requires { (surface ≤ 192) × (prefixes ≤ 1) × (suffixes ≤ 24) }
-    ensures { result ≡ score_by surface letters prefixes suffixes }
-{
-    let word = points_for(letters.word, 100);
-    let head = points_for(letters.head, 150);
-    let any = points_for(0 < prefixes + suffixes, 10);
-    word + head + 20 * (prefixes as u16) + 15 * (suffixes as u16) + any + surface
-}
+use tables::{prefix_rows, suffix_rows};
 
 // Parts are offered: their root is looked up, and kept where the sheet knows it.
 fn offer(asked: &Asked<'_>, p: Parts, list: &mut Roots)
-    requires { (p.prefix_count ≤ 1) × (p.suffix_count ≤ 24) }
+    requires { p.suffix_count ≤ 24 }
     ensures { list.new.items ≡ held_of root_limit (replies asked.now.sheet.now) asked.now.word.now list.old.items p }
 {
     let root = root_of(asked.word, p);
     let letters = asked.sheet.letters_of(root, b"");
-    if !is_known(letters) {
+    if !letters.is_known() {
         return;
     }
+    let prefixes = p.prefix_count();
     let decision = decide_origin(root, asked.sheet);
     let candidate = RootCandidate {
-        score: score(asked.surface, letters, p.prefix_count, p.suffix_count),
+        score: score_for(
+            letters.word,
+            letters.head,
+            false,
+            prefixes,
+            p.suffix_count,
+            asked.surface,
+        ),
         parts: p,
         origin: decision.origin,
         known_word: letters.word,
@@ -68,76 +51,78 @@ fn offer(asked: &Asked<'_>, p: Parts, list: &mut Roots)
     add(asked.word, list, candidate);
 }
 
-// What suffix row k has left of what stands behind a front, its first `left` bytes, is offered where it is there and has enough
-// characters.
-fn offer_rest(asked: &Asked<'_>, front: Front, k: u8, left: Option<usize>, list: &mut Roots)
-    requires { (front.count ≤ 1) × (front.from ≤ length asked.now.word.now)
-        × IfSome left (λ n. n ≤ length (drop front.from asked.now.word.now)) }
-    ensures { list.new.items ≡ held_all root_limit (replies asked.now.sheet.now) asked.now.word.now list.old.items
-        (parts_among (least_root front.count) front (label_row k ∷ []) (left_front (drop front.from asked.now.word.now) left)) }
-{
-    let Some(len) = left else {
-        return;
-    };
-    let from = front.from;
-    let to = from + len;
-    if text::characters::count(&asked.word[from..to]) < least_root(front.count) {
-        return;
+// What is asked of a word behind a front, which lies in the word.
+#[derive(Clone, Copy)]
+struct Behind<'a> {
+    asked: Asked<'a>,
+    front: Front,
+    ghost inside: { front.from ≤ length asked.word.now },
+}
+
+impl Behind<'_> {
+    // What stands behind the front.
+    fn piece(&self) -> &[u8]
+        ensures { result.now ≡ drop self.now.front.from self.now.asked.word.now }
+    {
+        &self.asked.word[self.front.from..]
     }
-    let mut rows = [0u8; 24];
-    rows[0] = label_row(k);
-    let p = Parts {
-        start: from as u8,
-        end: to as u8,
-        prefix: front.row,
-        prefix_count: front.count,
-        suffix_count: 1,
-        suffixes: rows,
-    };
-    offer(asked, p, list);
-}
 
-// The remainders under suffix row k of what stands behind a front.
-fn under_row(asked: &Asked<'_>, front: Front, k: u8, rests: Rests, list: &mut Roots)
-    requires { (front.count ≤ 1) × (front.from ≤ length asked.now.word.now) × Inside (drop front.from asked.now.word.now) rests }
-    ensures { list.new.items ≡ held_all root_limit (replies asked.now.sheet.now) asked.now.word.now list.old.items
-        (parts_among (least_root front.count) front (label_row k ∷ []) (fronts (drop front.from asked.now.word.now) rests)) }
-{
-    offer_rest(asked, front, k, rests.plain, list);
-    offer_rest(asked, front, k, rests.shared, list);
-}
+    // The front with no suffix.
+    fn bare(&self) -> Parts
+        ensures { result ≡ bare self.now.asked.word.now self.now.front }
+    {
+        parts_at(self.front, self.piece().len(), &[])
+    }
 
-// One suffix of what stands behind a front.
-fn with_suffix(asked: &Asked<'_>, front: Front, list: &mut Roots)
-    requires { (front.count ≤ 1) × (front.from ≤ length asked.now.word.now) }
-    ensures { list.new.items ≡ held_all root_limit (replies asked.now.sheet.now) asked.now.word.now list.old.items
-        (one_suffix (replies asked.now.sheet.now) asked.now.word.now front) }
-{
-    for k in 0..24 {
-        let rests = open_rests(asked.sheet, &asked.word[front.from..], suffix(k));
-        if rests.plain.is_none() {
-            continue;
+    // What suffix row k has left of the piece, its first `left` bytes, is offered where it is there and has enough characters.
+    fn offer_rest(&self, k: u8, left: Option<usize>, list: &mut Roots)
+        requires { IfSome left (λ n. n ≤ length (drop self.now.front.from self.now.asked.word.now)) }
+        ensures { list.new.items ≡ held_all root_limit (replies self.now.asked.sheet.now) self.now.asked.word.now list.old.items
+            (parts_among (least_root self.now.front.prefix) self.now.front (label_row k ∷ [])
+            (left_front (drop self.now.front.from self.now.asked.word.now) left)) }
+    {
+        let Some(len) = left else {
+            return;
+        };
+        if text::characters::count(&self.piece()[..len]) < least_root(self.front.prefix) {
+            return;
         }
-        under_row(asked, front, k as u8, rests, list);
+        let p = parts_at(self.front, len, &[label_row(k)]);
+        offer(&self.asked, p, list);
     }
-}
 
-// What stands behind a front with no suffix, then with one.
-fn with_front(asked: &Asked<'_>, front: Front, list: &mut Roots)
-    requires { (front.count ≤ 1) × (front.from ≤ length asked.now.word.now) }
-    ensures { list.new.items ≡ held_all root_limit (replies asked.now.sheet.now) asked.now.word.now list.old.items
-        (bare asked.now.word.now front ∷ one_suffix (replies asked.now.sheet.now) asked.now.word.now front) }
-{
-    let p = Parts {
-        start: front.from as u8,
-        end: asked.word.len() as u8,
-        prefix: front.row,
-        prefix_count: front.count,
-        suffix_count: 0,
-        suffixes: [0; 24],
-    };
-    offer(asked, p, list);
-    with_suffix(asked, front, list);
+    // The remainders of the piece under suffix row k.
+    fn under_row(&self, k: u8, rests: Rests, list: &mut Roots)
+        requires { Inside (drop self.now.front.from self.now.asked.word.now) rests }
+        ensures { list.new.items ≡ held_all root_limit (replies self.now.asked.sheet.now) self.now.asked.word.now list.old.items
+            (parts_among (least_root self.now.front.prefix) self.now.front (label_row k ∷ [])
+            (fronts (drop self.now.front.from self.now.asked.word.now) rests)) }
+    {
+        self.offer_rest(k, rests.plain, list);
+        self.offer_rest(k, rests.shared, list);
+    }
+
+    // One suffix.
+    fn with_suffix(&self, list: &mut Roots)
+        ensures { list.new.items ≡ held_all root_limit (replies self.now.asked.sheet.now) self.now.asked.word.now list.old.items
+            (one_suffix (replies self.now.asked.sheet.now) self.now.asked.word.now self.now.front) }
+    {
+        let rows = suffix_rows();
+        for (k, suffix) in rows.iter().enumerate() {
+            let rests = open_rests(self.asked.sheet, self.piece(), suffix.as_bytes());
+            self.under_row(k as u8, rests, list);
+        }
+    }
+
+    // No suffix, then one.
+    fn with_front(&self, list: &mut Roots)
+        ensures { list.new.items ≡ held_all root_limit (replies self.now.asked.sheet.now) self.now.asked.word.now list.old.items
+            (bare self.now.asked.word.now self.now.front
+            ∷ one_suffix (replies self.now.asked.sheet.now) self.now.asked.word.now self.now.front) }
+    {
+        offer(&self.asked, self.bare(), list);
+        self.with_suffix(list);
+    }
 }
 
 // One prefix row with none or one suffix.
@@ -145,40 +130,34 @@ pub(crate) fn with_prefix(asked: &Asked<'_>, list: &mut Roots)
     ensures { list.new.items ≡ held_all root_limit (replies asked.now.sheet.now) asked.now.word.now list.old.items
         (under_forms (replies asked.now.sheet.now) asked.now.word.now 0 prefix_forms) }
 {
-    for k in 0..30 {
-        let form = prefix_form(k);
-        let Some(n) = prefix_rest(asked.word, form) else {
+    let rows = prefix_rows();
+    for (k, row) in rows.iter().enumerate() {
+        let Some(from) = prefix_rest(asked.word, row.1.as_bytes()) else {
             continue;
         };
         let front = Front {
-            count: 1,
-            row: k as u8,
-            from: n,
+            prefix: Some(k as u8),
+            from,
         };
-        with_front(asked, front, list);
+        let behind = Behind {
+            asked: *asked,
+            front,
+        };
+        behind.with_front(list);
     }
 }
 
 // The word and its decomposition, then one suffix.
 pub(crate) fn with_word(asked: &Asked<'_>, p: Parts, list: &mut Roots)
-    requires { (p.prefix_count ≤ 1) × (p.suffix_count ≤ 24) }
+    requires { p.suffix_count ≤ 24 }
     ensures { list.new.items ≡ held_all root_limit (replies asked.now.sheet.now) asked.now.word.now list.old.items
         (bare asked.now.word.now no_front ∷ p ∷ one_suffix (replies asked.now.sheet.now) asked.now.word.now no_front) }
 {
-    let whole = Parts {
-        start: 0,
-        end: asked.word.len() as u8,
-        prefix: 0,
-        prefix_count: 0,
-        suffix_count: 0,
-        suffixes: [0; 24],
+    let behind = Behind {
+        asked: *asked,
+        front: Front::default(),
     };
-    offer(asked, whole, list);
+    offer(asked, behind.bare(), list);
     offer(asked, p, list);
-    let front = Front {
-        count: 0,
-        row: 0,
-        from: 0,
-    };
-    with_suffix(asked, front, list);
+    behind.with_suffix(list);
 }

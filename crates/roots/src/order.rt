@@ -1,5 +1,6 @@
 // The rank of two candidates of one word, and whether they are the same root, prefixes and suffixes.
 ghost use Rattle.std.specs.Prelude.{◌≡◌, map, take};
+ghost use Rattle.runs.specs.Runs.{cmp};
 ghost use Rattle.text.specs.Characters.{chars};
 ghost use Rattle.decomposition.specs.Parts.{root_text};
 ghost use Rattle.tables.specs.Rows.{suffixes, prefix_labels};
@@ -33,17 +34,22 @@ fn prefix_text(k: u8) -> &'static [u8]
     b""
 }
 
+// The order of two suffix labels, given by their rows.
+fn label_order(a: u8, b: u8) -> Ordering
+    ensures { result ≡ cmp (text_of suffixes a) (text_of suffixes b) }
+{
+    compare(suffix_text(a), suffix_text(b))
+}
+
 // The order of two lists of suffix labels, given by their rows, label by label; a list stands before each longer one that it begins.
 fn compare_labels(a: &[u8], b: &[u8]) -> Ordering
     ensures { result ≡ cmp_texts (map (text_of suffixes) a.now) (map (text_of suffixes) b.now) }
 {
-    for i in 0..a.len().min(b.len()) {
-        let order = compare(suffix_text(a[i]), suffix_text(b[i]));
-        if order.is_ne() {
-            return order;
-        }
-    }
-    a.len().cmp(&b.len())
+    a.iter()
+        .zip(b.iter())
+        .map(|(x, y)| label_order(*x, *y))
+        .find(|order| order.is_ne())
+        .unwrap_or(a.len().cmp(&b.len()))
 }
 
 // The labels of parts that suffixes were stripped for, by their rows.
@@ -51,7 +57,7 @@ fn suffix_rows_of(p: &Parts) -> &[u8]
     ensures { result.now ≡ take p.now.suffix_count p.now.suffixes }
 {
     let n = p.suffix_count as usize;
-    &p.suffixes[..n.min(24)]
+    &p.suffixes[..n.min(p.suffixes.len())]
 }
 
 // The order of two lists of suffix labels.
@@ -65,12 +71,9 @@ fn suffix_order(a: Parts, b: Parts) -> Ordering
 fn prefix_order(a: Parts, b: Parts) -> Ordering
     ensures { result ≡ cmp_texts (prefix_texts a) (prefix_texts b) }
 {
-    match (a.prefix_count, b.prefix_count) {
-        (0, 0) => Ordering::Equal,
-        (0, _) => Ordering::Less,
-        (_, 0) => Ordering::Greater,
-        (_, _) => compare(prefix_text(a.prefix), prefix_text(b.prefix)),
-    }
+    a.prefix
+        .map(|k| prefix_text(k))
+        .cmp(&b.prefix.map(|k| prefix_text(k)))
 }
 
 // The order of two roots by their characters: the longer one first.

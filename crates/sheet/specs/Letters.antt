@@ -41,6 +41,10 @@ letters_of s = record {
   tag = tag_of (after_flags s);
 }
 
+-- the sheet knows the name: by w or by h
+abbrev pub is_known : Letters → Bool
+is_known l = l.word || l.head
+
 -- at least w or h; every other letter needs h, and e needs p
 unfoldable pub well_kept : Letters → Bool
 well_kept l =

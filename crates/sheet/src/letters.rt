@@ -1,6 +1,6 @@
 // The letters of a `w` line.
 ghost use Rattle.std.specs.Prelude.{◌≡◌, ◌+◌, ◌≤◌, length, drop, ltb};
-ghost use Rattle.sheet.specs.Letters.{has, past, tag_of, letters_of, closes, is_letters};
+ghost use Rattle.sheet.specs.Letters.{has, past, tag_of, letters_of, is_known, closes, is_letters};
 
 use tables::origins::Origin;
 
@@ -13,6 +13,15 @@ pub struct Letters {
     pub pronoun: bool,
     pub spelled: bool,
     pub tag: Option<Origin>,
+}
+
+impl Letters {
+    // Whether the sheet knows the name, by w or by h.
+    pub fn is_known(&self) -> bool
+        ensures { result ≡ is_known self.now }
+    {
+        self.word || self.head
+    }
 }
 
 // The place after the letter c where it stands at i, else i.

@@ -4,16 +4,19 @@ ghost use Rattle.std.specs.Prelude.{◌≡◌};
 ghost use Rattle.strips.specs.Prefix.{least_after, rest_of};
 
 // How many characters a form must leave: 2, or 4 where the form is one character. It takes any run, an empty one too.
+#[tactic(auto, unfolding(crate::specs::Prefix::least_after))]
 pub fn least_after(form: &[u8]) -> usize
     ensures { result ≡ least_after form.now }
 {
     if text::characters::count(form) == 1 {
-        return 4;
+        4
+    } else {
+        2
     }
-    2
 }
 
 // What the form leaves of the piece. A piece that does not begin with the form has no rest, nor one of which too little is left.
+#[tactic(auto, unfolding(crate::specs::Prefix::rest_of, crate::specs::Prefix::leaves))]
 pub fn prefix_rest(piece: &[u8], form: &[u8]) -> Option<usize>
     ensures { result ≡ rest_of piece.now form.now }
 {
@@ -22,9 +25,5 @@ pub fn prefix_rest(piece: &[u8], form: &[u8]) -> Option<usize>
     }
     let n = form.len();
     let left = text::characters::count(&piece[n..]);
-    let least = least_after(form);
-    if left < least {
-        return None;
-    }
-    Some(n)
+    (least_after(form) <= left).then_some(n)
 }

@@ -6,7 +6,7 @@ ghost use Rattle.strips.specs.Suffix.{first_length, sheds, rests_of, keeps_prono
 
 // The remainders of a piece under a suffix, each by how many bytes of the piece it is: the plain one, and the one that keeps the suffix's
 // first character.
-#[derive(Clone, Copy, Debug, PartialEq, Eq)]
+#[derive(Clone, Copy, Debug, Default, PartialEq, Eq)]
 pub struct Rests {
     pub plain: Option<usize>,
     pub shared: Option<usize>,
@@ -35,25 +35,18 @@ fn sheds(piece: &[u8], suffix: &[u8]) -> bool
 
 // The remainders of a piece under a suffix. A piece that does not end in the suffix, or is no longer than it, has none; a suffix of one
 // character leaves no shared one.
+#[tactic(auto, unfolding(crate::specs::Suffix::rests_of, crate::specs::Suffix::is_long))]
 pub fn suffix_rests(piece: &[u8], suffix: &[u8]) -> Rests
     ensures { result ≡ rests_of piece.now suffix.now }
 {
     if !sheds(piece, suffix) {
-        return Rests {
-            plain: None,
-            shared: None,
-        };
+        return Rests::default();
     }
     let plain = piece.len() - suffix.len();
-    if text::characters::count(suffix) <= 1 {
-        return Rests {
-            plain: Some(plain),
-            shared: None,
-        };
-    }
+    let is_long = 1 < text::characters::count(suffix);
     Rests {
         plain: Some(plain),
-        shared: Some(plain + first_char_len(suffix)),
+        shared: is_long.then(|| plain + first_char_len(suffix)),
     }
 }
 

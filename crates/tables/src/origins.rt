@@ -5,8 +5,9 @@ ghost use Rattle.tables.specs.Origins.{origin_of};
 use crate::origin_rows;
 
 // Where a word comes from.
-#[derive(Clone, Copy, Debug, PartialEq, Eq)]
+#[derive(Clone, Copy, Debug, Default, PartialEq, Eq)]
 pub enum Origin {
+    #[default]
     Tatsam,
     Tadbhav,
     Deshaj,

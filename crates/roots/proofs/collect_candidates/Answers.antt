@@ -6,7 +6,7 @@ use lib.ListN.{length}
 use Rattle.text.specs.Characters.{chars}
 use Rattle.lookup.specs.Lexicons.{replies}
 use Rattle.decomposition.specs.Parts.{decomposed_of}
-use Rattle.decomposition.proofs.Few.{few-prefixes, few-suffixes}
+use Rattle.decomposition.proofs.Few.{few-suffixes}
 use Rattle.roots.proofs.Bounded.{collected_is, chars_most}
 use Rattle.roots.proofs.collect_candidates.Goals as goal
 
@@ -22,7 +22,7 @@ with_word-requires c =
     let ask = replies c.args.sheet.now in
     let w = c.args.word.now in
     let p : c.decomposed.result ≡ decomposed_of ask w = c.decomposed.ensures in
-    (rw p (few-prefixes ask w), rw p (few-suffixes ask w))
+    rw p (few-suffixes ask w)
 
 pub returns : goal.returns
 returns c =

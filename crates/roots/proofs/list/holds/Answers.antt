@@ -1,23 +1,14 @@
--- `list::holds` meets its contract: no row passed has the same root and labels. Assumes nothing.
-use Rattle.std.proofs.Common.{sym, ap, ◌∙◌}
-use Rattle.roots.specs.Rank.{is_equal}
-use Rattle.roots.proofs.Alternatives.{equals}
-use Rattle.roots.proofs.Kept.{holds_here, holds_next, holds_none}
+-- `list::holds` meets its contract: `any` finds a row with the same root and labels. Assumes nothing.
+use Rattle.std.proofs.Common.{rules, tests, ◌∙◌, sym}
+use Rattle.std.specs.Ordering.{is_eq}
+use Rattle.std.proofs.lemmas.Iterator.{YieldsList-from_slice}
+use Rattle.std.proofs.lemmas.Iterator.Search.{any_from_yields_List}
+use Rattle.roots.specs.Rank.{key_order}
+use Rattle.roots.proofs.Kept.{holds_any}
 use Rattle.roots.proofs.list.holds.Goals as goal
-
-pub returns-then-is_eq : goal.returns-then-is_eq
-returns-then-is_eq c =
-    let a = c.args in
-    let e = ap is_equal (sym c.key_order.ensures) ∙ sym (equals c.key_order.result) ∙ sym c.is_eq.ensures ∙ c.if-is_eq.true in
-    sym (c.loop-row.invariant ∙ holds_here a.word.now a.p a.rows.now c.loop-row.row-index _ c.loop-row-test.true e)
-
-pub loop-row-preserved : goal.loop-row-preserved
-loop-row-preserved c =
-    let a = c.args in
-    let e = ap is_equal (sym c.key_order.ensures) ∙ sym (equals c.key_order.result) ∙ sym c.is_eq.ensures ∙ c.if-is_eq.false in
-    c.loop-row.invariant ∙ holds_next a.word.now a.p a.rows.now c.loop-row.row-index _ c.loop-row-test.true e
 
 pub returns : goal.returns
 returns c =
     let a = c.args in
-    sym (c.loop-row.invariant ∙ holds_none a.word.now a.p a.rows.now c.loop-row.row-index c.loop-row-test.false)
+    any_from_yields_List (λ x. is_eq (key_order a.word.now a.p x.parts)) _ _ c.any.result c.any.ensures.ran (YieldsList-from_slice a.rows.now c.iter.ensures.rest) (λ x b q k. search (rules, tests))
+    ∙ sym (holds_any a.word.now a.p a.rows.now)
