@@ -6,4 +6,4 @@ use Rattle.lookup.proofs.lines.asked.Goals as goal
 pub returns : goal.returns
 returns g c =
     let k = indexed c.args.sheet.now _ _ c.in_ok-lines.lines c.in_ok-lines.ensures in
-    record { accepted = k.0; lexicon = _; of_sheet = refl; given = c.ask.ensures }
+    record { accepted = k.0; lexicon = _; of_sheet = refl; lent = _; left = _; before = refl; after = refl; given = c.ask.ensures }
