@@ -43,6 +43,18 @@ pub fn check_lines(s: &[u8], out: &mut [Start]) -> Result<usize, SheetFault>
     }
 }
 
+// The lexicon of a sheet, with a list that has room for the starts of its lines; or the fault of a sheet that is not accepted.
+pub fn lexicon_of<'s>(sheet: &'s [u8], starts: &'s mut [Start]) -> Result<Lexicon<'s>, SheetFault>
+    requires { Room sheet.now starts.old }
+    ensures { MatchResult result (λ l. l.bytes.now ≡ sheet.now) (λ fault. sheet_check sheet.now ≡ Err fault) }
+{
+    let lines = check_lines(sheet, starts)?;
+    Ok(Lexicon {
+        bytes: sheet,
+        starts: &starts[..lines],
+    })
+}
+
 // What is asked of a sheet into `out`, with a list that has room for the starts of its lines.
 fn asked<T, R, F: FnOnce(&Lexicon<'_>, &mut [T]) -> R>(
     sheet: &[u8],
@@ -54,11 +66,7 @@ fn asked<T, R, F: FnOnce(&Lexicon<'_>, &mut [T]) -> R>(
     requires callable { F.IsAlwaysCallable ask }
     ensures { MatchResult result (λ r. AskedInto sheet.now out.old out.new (λ l o n. F.post ask l o r n)) (λ fault. (sheet_check sheet.now ≡ Err fault) × (out.new ≡ out.old)) }
 {
-    let lines = check_lines(sheet, starts)?;
-    let lexicon = Lexicon {
-        bytes: sheet,
-        starts: &starts[..lines],
-    };
+    let lexicon = lexicon_of(sheet, starts)?;
     Ok(ask(&lexicon, out))
 }
 
@@ -86,10 +94,12 @@ pub fn with_lexicon<R, F: FnOnce(&Lexicon<'_>) -> R>(sheet: &[u8], ask: F) -> Re
     ensures { MatchResult result (λ r. Asked sheet.now (λ l. F.post ask l r)) (λ fault. sheet_check sheet.now ≡ Err fault) }
 {
     let nothing: &mut [u8] = &mut [];
-    with_lexicon_into(sheet, nothing, |lexicon, _|
-        requires { F.IsAlwaysCallable ask }
-        ensures { F.post ask lexicon.entry result }
-    {
-        ask(lexicon)
-    })
+    with_lexicon_into(
+        sheet,
+        nothing,
+        |lexicon, _|
+            requires { F.IsAlwaysCallable ask }
+            ensures { F.post ask lexicon.entry result }
+        { ask(lexicon) },
+    )
 }

@@ -2,43 +2,21 @@
 ghost use Rattle.std.specs.Prelude.{◌≡◌, map, take};
 ghost use Rattle.text.specs.Characters.{chars};
 ghost use Rattle.decomposition.specs.Parts.{root_text};
-ghost use Rattle.tables.specs.Rows.{suffixes, prefix_labels};
+ghost use Rattle.tables.specs.Rows.{suffixes};
 ghost use Rattle.roots.specs.Rank.{descending, text_of, cmp_texts, prefix_texts, suffix_texts, key_order, rank_of};
 
 use crate::RootCandidate;
 use decomposition::{Parts, root_of};
 use runs::compare;
 use std::cmp::Ordering;
-use tables::{prefix_label, prefix_rows, suffix, suffix_rows};
-
-// The label of row k of SUFFIXES, nothing where there is no such row.
-fn suffix_text(k: u8) -> &'static [u8]
-    ensures { result.now ≡ text_of suffixes k }
-{
-    let i = k as usize;
-    if i < suffix_rows().len() {
-        return suffix(i);
-    }
-    b""
-}
-
-// The label of row k of PREFIX_FORMS, nothing where there is no such row.
-fn prefix_text(k: u8) -> &'static [u8]
-    ensures { result.now ≡ text_of prefix_labels k }
-{
-    let i = k as usize;
-    if i < prefix_rows().len() {
-        return prefix_label(i);
-    }
-    b""
-}
+use tables::{prefix_label, suffix};
 
 // The order of two lists of suffix labels, given by their rows, label by label; a list stands before each longer one that it begins.
 fn compare_labels(a: &[u8], b: &[u8]) -> Ordering
     ensures { result ≡ cmp_texts (map (text_of suffixes) a.now) (map (text_of suffixes) b.now) }
 {
     for i in 0..a.len().min(b.len()) {
-        let order = compare(suffix_text(a[i]), suffix_text(b[i]));
+        let order = compare(suffix(usize::from(a[i])), suffix(usize::from(b[i])));
         if order.is_ne() {
             return order;
         }
@@ -69,7 +47,10 @@ fn prefix_order(a: Parts, b: Parts) -> Ordering
         (0, 0) => Ordering::Equal,
         (0, _) => Ordering::Less,
         (_, 0) => Ordering::Greater,
-        (_, _) => compare(prefix_text(a.prefix), prefix_text(b.prefix)),
+        (_, _) => compare(
+            prefix_label(usize::from(a.prefix)),
+            prefix_label(usize::from(b.prefix)),
+        ),
     }
 }
 
