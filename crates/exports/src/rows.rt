@@ -83,15 +83,7 @@ pub extern "C" fn yunthirel_readings(word: &[u8], sheet: &[u8], out: &mut [u8]) 
     if let Err(fault) = check_word(word) {
         return refusal_code(Refusal::from(fault));
     }
-    match with_lexicon_into(
-        sheet,
-        out,
-        |lexicon, out|
-            requires { word_check word.now ≡ Ok tt }
-            ensures { (result ≡ (readings_filled word.entry.now lexicon.now.bytes.now out.old).code)
-                × (out.new ≡ (readings_filled word.entry.now lexicon.now.bytes.now out.old).buffer) }
-        { rows_in(word, lexicon, out) },
-    ) {
+    match with_lexicon_into(sheet, out, |lexicon, out| rows_in(word, lexicon, out)) {
         Err(fault) => refusal_code(Refusal::from(fault)),
         Ok(code) => code,
     }
