@@ -157,35 +157,25 @@ pub extern "C" fn yunthirel_listing(word: &[u8], sheet: &[u8], out: &mut [u8]) -
     written_code(write_readings(word, sheet, out))
 }
 
-fn origin_number(origin: Origin) -> u64
+// The number that C has for an origin.
+fn origin_number(origin: Origin) -> u8
     ensures { (result ≡ origin_number origin) × (result ≤ 3) }
 {
-    match origin {
-        Origin::Tatsam => 0,
-        Origin::Tadbhav => 1,
-        Origin::Deshaj => 2,
-        Origin::Aagantuk => 3,
-    }
+    origin as u8
 }
 
-fn source_number(source: OriginSource) -> u64
+// The number that C has for a source.
+fn source_number(source: OriginSource) -> u8
     ensures { (result ≡ source_number source) × (result ≤ 3) }
 {
-    match source {
-        OriginSource::Override => 0,
-        OriginSource::Kosha => 1,
-        OriginSource::Heuristic => 2,
-        OriginSource::Unknown => 3,
-    }
+    source as u8
 }
 
 // Origin and source of a decision; the confidence is a number of its own kind and has its own function.
 fn decision_code(decision: OriginDecision) -> u64
     ensures { result ≡ answered (origin_number decision.origin + 4 * source_number decision.source) }
 {
-    let origin = decision.origin;
-    let source = decision.source;
-    256 * (origin_number(origin) + 4 * source_number(source))
+    256 * u64::from(origin_number(decision.origin) + 4 * source_number(decision.source))
 }
 
 // Where the word comes from, in bits 0 and 1 of the value, and how that is known, in bits 2 and 3; else the refusal.

@@ -1,6 +1,6 @@
 // Decompositions and root candidates, stored in a lent buffer of bytes.
 ghost use Rattle.std.specs.Prelude.{◌≡◌, refl, ◌++◌, ◌≤◌, length, drop};
-ghost use Rattle.exports.specs.Codes.{bit, origin_number};
+ghost use Rattle.exports.specs.Codes.{bit};
 ghost use Rattle.exports.specs.Filled.{parts_bytes, morpheme_bytes, candidate_bytes, stored, decompose_filled, candidate_width, candidates_filled};
 
 use crate::stored::{Row, put_rows};
@@ -10,7 +10,6 @@ use decomposition::{Morpheme, Parts};
 use refusals::Refusal;
 use roots::RootCandidate;
 use roots::entries::lookup_root_candidates;
-use tables::origins::Origin;
 
 // Parts and four bytes more, at the front of the buffer.
 fn put_parts(p: Parts, a: u8, b: u8, c: u8, d: u8, out: &mut [u8])
@@ -38,12 +37,6 @@ fn bit_of(b: bool) -> u8
     u8::from(b)
 }
 
-pub(crate) fn origin_byte(origin: Origin) -> u8
-    ensures { result ≡ origin_number origin }
-{
-    origin_number(origin) as u8
-}
-
 // A candidate: its parts, origin, whether it is known, and score.
 impl Row for RootCandidate {
     const WIDTH: usize = 33;
@@ -55,7 +48,7 @@ impl Row for RootCandidate {
     ghost wide = { λ c. refl };
 
     fn put(self, out: &mut [u8]) {
-        let origin = origin_byte(self.origin);
+        let origin = origin_number(self.origin);
         let known = bit_of(self.known_word) + 2 * bit_of(self.known_headword);
         let score = self.score.to_le_bytes();
         put_parts(self.parts, origin, known, score[0], score[1], out);
@@ -82,7 +75,7 @@ fn put_morpheme(m: Morpheme, out: &mut [u8]) -> u64
     if out.len() < 33 {
         return refusal_code(Refusal::OutputTooShort);
     }
-    let origin = origin_byte(m.origin);
+    let origin = origin_number(m.origin);
     put_parts(m.parts, origin, 0, 0, 0, out);
     0
 }

@@ -5,34 +5,22 @@ ghost use Rattle.std.specs.Prelude.{◌≡◌, refl, Ok};
 ghost use Rattle.std.specs.Float.{binary32};
 ghost use Rattle.std.specs.Float.Ieee.{to_bits};
 ghost use Rattle.text.specs.Word.{word_check};
-ghost use Rattle.lookup.specs.Starts.{Room};
-ghost use Rattle.exports.specs.Codes.{source_number};
 ghost use Rattle.exports.specs.Rows.{row_bytes, row_width, readings_filled};
 
-use crate::parts::origin_byte;
 use crate::stored::{Row, put_rows};
-use crate::{refusal_code, source_number};
+use crate::{origin_number, refusal_code, source_number};
 use analysis::entry::keep_readings;
 use analysis::origins::classify_rows;
 use lookup::lexicon::Lexicon;
-use lookup::lines::check_lines;
-use lookup::starts::Start;
-use origin::OriginSource;
+use lookup::lines::with_lexicon_into;
 use ranking::Classified;
 use ranking::kept::Kept;
 use ranking::rows::{WIDTH, put_reading};
 use refusals::Refusal;
-use sheet::limits::{ALL_STARTS, FEW_STARTS, SMALL_BYTES};
 use text::word::check_word;
 
 // The bytes of a row.
 pub const ROW: usize = 28;
-
-fn source_byte(source: OriginSource) -> u8
-    ensures { result ≡ source_number source }
-{
-    source_number(source) as u8
-}
 
 // The bits of a number; 7FC00000 (hexadecimal) for what is none, which no confidence is.
 fn bits_of(x: f32) -> u32
@@ -57,8 +45,8 @@ impl Row for Classified {
     fn put(self, out: &mut [u8]) {
         let bits = bits_of(self.confidence).to_le_bytes();
         let rest = [
-            origin_byte(self.origin),
-            source_byte(self.source),
+            origin_number(self.origin),
+            source_number(self.source),
             bits[0],
             bits[1],
             bits[2],
@@ -83,24 +71,6 @@ fn rows_in(word: &[u8], sheet: &Lexicon<'_>, out: &mut [u8]) -> u64
     }
 }
 
-// Those of an accepted word by any sheet, with a list that has room for the starts of its lines.
-fn rows_by(word: &[u8], sheet: &[u8], starts: &mut [Start], out: &mut [u8]) -> u64
-    requires { (word_check word.now ≡ Ok tt) × Room sheet.now starts.old }
-    ensures { (result ≡ (readings_filled word.now sheet.now out.old).code)
-        × (out.new ≡ (readings_filled word.now sheet.now out.old).buffer) }
-{
-    match check_lines(sheet, starts) {
-        Err(fault) => refusal_code(Refusal::from(fault)),
-        Ok(lines) => {
-            let lexicon = Lexicon {
-                bytes: sheet,
-                starts: &starts[..lines],
-            };
-            rows_in(word, &lexicon, out)
-        }
-    }
-}
-
 // The word's readings in rank order, 28 bytes each, at the front of the buffer, and their number. Where nothing is stored, and `out` is
 // as it was: the refusal, 8 for a buffer with less than 28 bytes for each. 1,792 bytes are always enough.
 //
@@ -113,10 +83,8 @@ pub extern "C" fn yunthirel_readings(word: &[u8], sheet: &[u8], out: &mut [u8]) 
     if let Err(fault) = check_word(word) {
         return refusal_code(Refusal::from(fault));
     }
-    if sheet.len() <= SMALL_BYTES {
-        let mut few: [Start; FEW_STARTS] = [0; FEW_STARTS];
-        return rows_by(word, sheet, &mut few, out);
+    match with_lexicon_into(sheet, out, |lexicon, out| rows_in(word, lexicon, out)) {
+        Err(fault) => refusal_code(Refusal::from(fault)),
+        Ok(code) => code,
     }
-    let mut starts: [Start; ALL_STARTS] = [0; ALL_STARTS];
-    rows_by(word, sheet, &mut starts, out)
 }

@@ -31,8 +31,8 @@ pub(crate) fn put_rows<T: Row>(rows: &[T], out: &mut [u8]) -> u64
     if out.len() < T::WIDTH * n {
         return refusal_code(Refusal::OutputTooShort);
     }
-    for i in 0..n {
-        rows[i].put(&mut out[T::WIDTH * i..]);
+    for (i, &row) in rows.iter().enumerate() {
+        row.put(&mut out[T::WIDTH * i..]);
     }
     256 * (n as u64)
 }

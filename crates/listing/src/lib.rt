@@ -10,6 +10,7 @@ use ranking::Listing;
 use refusals::Refusal;
 use rows::put_listing;
 
+mod each;
 pub mod entry;
 mod rows;
 pub mod surface;

@@ -2,42 +2,15 @@
 ghost use Rattle.std.specs.Prelude.{◌≡◌, ◌*◌, ◌≤◌, length, take};
 ghost use Rattle.text.specs.Word.{word_limit};
 ghost use Rattle.writing.specs.Placed.{Wrote};
-ghost use Rattle.writing.specs.Refused.{gap, parted};
+ghost use Rattle.writing.specs.Refused.{parted};
 ghost use Rattle.writing.specs.Writers.{with_text};
-ghost use Rattle.listing.specs.Texts.{kind_text, mark_text, affix_text, label_text, segment_text, prefix_texts, segment_texts, reading_text, end_text, row_text, row_texts, listing_text, reading_room, row_room, listing_room};
+ghost use Rattle.listing.specs.Texts.{kind_text, mark_text, segment_text, prefix_texts, segment_texts, reading_text, end_text, row_text, row_texts, listing_text, reading_room, row_room, listing_room};
 
+use crate::each::put_parted;
 use ranking::{AffixKind, Classified, Reading, Segment, root_of, stem_of};
 use tables::origins::Origin;
+use tables::{affix, prefix_label};
 use writing::Writer;
-
-// Puts a space, but not before the first text.
-pub(crate) fn put_gap(w: &mut Writer, i: usize)
-    ensures { w.new ≡ with_text w.old (gap i) }
-{
-    if 0 < i {
-        w.put(b" ");
-    }
-}
-
-// The label of prefix row k, nothing where there is no such row.
-fn label_text(k: u8) -> &'static [u8]
-    ensures { result.now ≡ label_text k }
-{
-    if 30 <= k {
-        return b"";
-    }
-    tables::prefix_label(usize::from(k))
-}
-
-// Suffix text k, nothing where there is none.
-pub(crate) fn affix_text(k: u8) -> &'static [u8]
-    ensures { result.now ≡ affix_text k }
-{
-    if 25 <= k {
-        return b"";
-    }
-    tables::affix(usize::from(k))
-}
 
 // Puts the name of a kind.
 fn put_kind(w: &mut Writer, kind: AffixKind)
@@ -67,7 +40,7 @@ fn put_segment(w: &mut Writer, s: Segment)
     ensures { w.new ≡ with_text w.old (segment_text s) }
 {
     w.put(b"(");
-    w.put(affix_text(s.label));
+    w.put(affix(usize::from(s.label)));
     w.put(b" ");
     put_kind(w, s.kind);
     put_mark(w, s.shared);
@@ -79,10 +52,11 @@ fn put_prefixes(w: &mut Writer, row: Reading)
     ensures { w.new ≡ with_text w.old (parted (prefix_texts row)) }
 {
     let n = usize::from(row.prefix_count).min(row.prefixes.len());
-    for i in 0..n {
-        put_gap(w, i);
-        w.put(label_text(row.prefixes[i]));
-    }
+    put_parted(
+        w,
+        &row.prefixes[..n],
+        |w, k| w.put(prefix_label(usize::from(k))),
+    );
 }
 
 // Puts the segments of a reading.
@@ -90,10 +64,7 @@ fn put_segments(w: &mut Writer, row: Reading)
     ensures { w.new ≡ with_text w.old (parted (segment_texts row)) }
 {
     let n = usize::from(row.suffix_count).min(row.segments.len());
-    for i in 0..n {
-        put_gap(w, i);
-        put_segment(w, row.segments[i]);
-    }
+    put_parted(w, &row.segments[..n], |w, s| put_segment(w, s));
 }
 
 // Puts what a row says of a reading: stem, root, prefix labels, segments and score, with a space behind it.

@@ -1,33 +1,23 @@
 // The word put back together from a reading of it, for printers: the forms of its prefixes, the root, and its suffixes, a shared letter
 // written once.
 ghost use Rattle.std.specs.Prelude.{◌≡◌};
-ghost use Rattle.paths.specs.Chains.{form_of};
 ghost use Rattle.paths.specs.Recomposed.{in_row, prefix_forms, suffix_texts, written_of, surface_text};
 ghost use Rattle.writing.specs.Placed.{Answer};
 ghost use Rattle.writing.specs.Writers.{with_text};
 
-use crate::rows::affix_text;
+use crate::each::put_each;
 use ranking::{Reading, Segment, root_of};
 use refusals::Refusal;
 use strips::suffix::first_char_len;
+use tables::{affix, prefix_form};
 use writing::{Printed, Writer, write_whole};
-
-// The form of prefix row k, nothing where there is no such row.
-fn form_of(k: u8) -> &'static [u8]
-    ensures { result.now ≡ form_of k }
-{
-    if 30 <= k {
-        return b"";
-    }
-    tables::prefix_form(usize::from(k))
-}
 
 // What of a suffix's text is written: all of it, or what follows its first character where that is shared. Nothing for a row that the
 // table does not have.
 fn written_of(s: Segment) -> &'static [u8]
     ensures { result.now ≡ written_of s }
 {
-    let text = affix_text(s.label);
+    let text = affix(usize::from(s.label));
     if !s.shared {
         return text;
     }
@@ -39,9 +29,11 @@ fn put_forms(w: &mut Writer, row: Reading)
     ensures { w.new ≡ with_text w.old (in_row (prefix_forms row)) }
 {
     let n = usize::from(row.prefix_count).min(row.prefixes.len());
-    for i in 0..n {
-        w.put(form_of(row.prefixes[i]));
-    }
+    put_each(
+        w,
+        &row.prefixes[..n],
+        |w, k| w.put(prefix_form(usize::from(k))),
+    );
 }
 
 // Puts what is written of a reading's suffixes, nearest the stem first.
@@ -49,9 +41,7 @@ fn put_suffixes(w: &mut Writer, row: Reading)
     ensures { w.new ≡ with_text w.old (in_row (suffix_texts row)) }
 {
     let n = usize::from(row.suffix_count).min(row.segments.len());
-    for i in 0..n {
-        w.put(written_of(row.segments[i]));
-    }
+    put_each(w, &row.segments[..n], |w, s| w.put(written_of(s)));
 }
 
 // A reading of a word, of which the word is put together.

@@ -9,20 +9,12 @@ use crate::entry::{print_answer, print_readings};
 pub fn readings_of(word: &[u8], sheet: &[u8], out: &mut [u8; 65536]) -> usize
     ensures { Whole (readings_text word.now sheet.now) out.old out.new result }
 {
-    let written = print_readings(word, sheet, out);
-    match written {
-        Ok(n) => n,
-        Err(_) => 0,
-    }
+    print_readings(word, sheet, out).unwrap_or(0)
 }
 
 // Writes what the program prints for its input at the front of `out`, and gives how long that is.
 pub fn answer_of(input: &[u8], out: &mut [u8; 65536]) -> usize
     ensures { Whole (printed input.now) out.old out.new result }
 {
-    let written = print_answer(input, out);
-    match written {
-        Ok(size) => size,
-        Err(_) => 0,
-    }
+    print_answer(input, out).unwrap_or(0)
 }

@@ -65,14 +65,14 @@ starts_from_lem true n (b ∷ t) zero h = omega arith
 starts_from_lem true n (b ∷ t) (suc i) h = let z = starts_from_lem (eqb b 0x0A) (suc n) t i (omega arith) in omega arith
 starts_from_lem false n (b ∷ t) i h = let z = starts_from_lem (eqb b 0x0A) (suc n) t i h in omega arith
 
--- one turn of the filling: the start `at` stored at place n of `out`, which was `old` before
-module _ (out old : List ℕ) (n at : ℕ) (h : n < length out) where
-  pub stored-front : (rest : List ℕ) → take (n + 1) (set out n at) ++ rest ≡ take n out ++ at ∷ rest
+-- one turn of a filling: `at` stored at place n of `out`, which was `old` before
+module _ {A : Type 0} (out old : List A) (n : ℕ) (at : A) (h : n < length out) where
+  pub stored-front : (rest : List A) → take (n + 1) (set out n at) ++ rest ≡ take n out ++ at ∷ rest
   stored-front rest = rw (add-one, take-suc-set out n at h) (append_assoc (take n out) (at ∷ []) rest)
 
   pub stored-behind : drop n out ≡ drop n old → drop (n + 1) (set out n at) ≡ drop (n + 1) old
   stored-behind e =
-      drop-set-lt (n + 1) out n at (omega arith) ∙ sym (drop-drop 1 n out) ∙ ap (λ (l : List ℕ). drop 1 l) e ∙ drop-drop 1 n old
+      drop-set-lt (n + 1) out n at (omega arith) ∙ sym (drop-drop 1 n out) ∙ ap (λ (l : List A). drop 1 l) e ∙ drop-drop 1 n old
 
 -- so far n starts are stored in `out`, which was `old` before; `rest` are those to come
 module _ (starts out old : List ℕ) (n : ℕ) (h : n ≤ length out) where

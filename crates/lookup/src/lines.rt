@@ -1,9 +1,9 @@
 // The check of a sheet for all that is asked of it: the sheet is read once, and the first byte of each line is stored on the way.
-ghost use Rattle.std.specs.Prelude.{◌≡◌, Ok, Err, MatchResult};
+ghost use Rattle.std.specs.Prelude.{◌≡◌, Err, MatchResult};
 ghost use Rattle.sheet.specs.Lines.{sheet_check};
 ghost use Rattle.lookup.specs.Starts.{Room};
 ghost use Rattle.lookup.specs.Stored.{Stored};
-ghost use Rattle.lookup.specs.Lexicons.{Asked};
+ghost use Rattle.lookup.specs.Lexicons.{Asked, AskedInto};
 
 use crate::lexicon::Lexicon;
 use crate::starts::Start;
@@ -30,34 +30,63 @@ pub fn check_lines(s: &[u8], out: &mut [Start]) -> Result<usize, SheetFault>
     Ok(n)
 }
 
-// What is asked of a sheet, with a list that has room for the starts of its lines.
-fn asked<R, F: FnOnce(&Lexicon<'_>) -> R>(
+// The lexicon of a sheet, with a list that has room for the starts of its lines; or the fault of a sheet that is not accepted.
+pub fn lexicon_of<'s>(sheet: &'s [u8], starts: &'s mut [Start]) -> Result<Lexicon<'s>, SheetFault>
+    requires { Room sheet.now starts.old }
+    ensures { MatchResult result (λ l. l.bytes.now ≡ sheet.now) (λ fault. sheet_check sheet.now ≡ Err fault) }
+{
+    let lines = check_lines(sheet, starts)?;
+    Ok(Lexicon {
+        bytes: sheet,
+        starts: &starts[..lines],
+    })
+}
+
+// What is asked of a sheet into `out`, with a list that has room for the starts of its lines.
+fn asked<T, R, F: FnOnce(&Lexicon<'_>, &mut [T]) -> R>(
     sheet: &[u8],
     starts: &mut [Start],
+    out: &mut [T],
     ask: F,
 ) -> Result<R, SheetFault>
     requires room { Room sheet.now starts.old }
     requires callable { F.IsAlwaysCallable ask }
-    ensures { MatchResult result (λ r. Asked sheet.now (λ l. F.post ask l r)) (λ fault. sheet_check sheet.now ≡ Err fault) }
+    ensures { MatchResult result (λ r. AskedInto sheet.now out.old out.new (λ l o n. F.post ask l o r n)) (λ fault. (sheet_check sheet.now ≡ Err fault) × (out.new ≡ out.old)) }
 {
-    let lines = check_lines(sheet, starts)?;
-    let lexicon = Lexicon {
-        bytes: sheet,
-        starts: &starts[..lines],
-    };
-    Ok(ask(&lexicon))
+    let lexicon = lexicon_of(sheet, starts)?;
+    Ok(ask(&lexicon, out))
 }
 
-// What is asked of a sheet: the answer where it is accepted, else its fault. The sheet is checked once, before it is asked. A list for the
-// lines of any sheet is 13 KB to clear, which a small sheet is spared.
+// What is asked of a sheet into a lent output: the answer where the sheet is accepted, else its fault, and then `out` is as it was. The
+// sheet is checked once, before it is asked. A list for the lines of any sheet is 13 KB to clear, which a small sheet is spared.
+pub fn with_lexicon_into<T, R, F: FnOnce(&Lexicon<'_>, &mut [T]) -> R>(
+    sheet: &[u8],
+    out: &mut [T],
+    ask: F,
+) -> Result<R, SheetFault>
+    requires { F.IsAlwaysCallable ask }
+    ensures { MatchResult result (λ r. AskedInto sheet.now out.old out.new (λ l o n. F.post ask l o r n)) (λ fault. (sheet_check sheet.now ≡ Err fault) × (out.new ≡ out.old)) }
+{
+    if sheet.len() <= SMALL_BYTES {
+        let mut few: [Start; FEW_STARTS] = [0; FEW_STARTS];
+        return asked(sheet, &mut few, out, ask);
+    }
+    let mut starts: [Start; ALL_STARTS] = [0; ALL_STARTS];
+    asked(sheet, &mut starts, out, ask)
+}
+
+// What is asked of a sheet: the answer where it is accepted, else its fault.
 pub fn with_lexicon<R, F: FnOnce(&Lexicon<'_>) -> R>(sheet: &[u8], ask: F) -> Result<R, SheetFault>
     requires { F.IsAlwaysCallable ask }
     ensures { MatchResult result (λ r. Asked sheet.now (λ l. F.post ask l r)) (λ fault. sheet_check sheet.now ≡ Err fault) }
 {
-    if sheet.len() <= SMALL_BYTES {
-        let mut few: [Start; FEW_STARTS] = [0; FEW_STARTS];
-        return asked(sheet, &mut few, ask);
-    }
-    let mut starts: [Start; ALL_STARTS] = [0; ALL_STARTS];
-    asked(sheet, &mut starts, ask)
+    let nothing: &mut [u8] = &mut [];
+    with_lexicon_into(
+        sheet,
+        nothing,
+        |lexicon, _|
+            requires { F.IsAlwaysCallable ask }
+            ensures { F.post ask lexicon.entry result }
+        { ask(lexicon) },
+    )
 }

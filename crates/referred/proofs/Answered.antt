@@ -10,24 +10,17 @@ use Rattle.refusals.specs.Refusals.{room_for, output_by}
 use Rattle.refusals.specs.declared.Refusal.{Refusal}
 use Rattle.sheet.specs.Inputs.{by_sheet}
 use Rattle.sheet.specs.Lines.{sheet_check}
-use Rattle.referred.specs.Report.{Finding, findings_of}
-use Rattle.referred.specs.Codes.{codes_of}
+use Rattle.referred.specs.declared.Finding.{Finding}
+use Rattle.referred.specs.Report.{findings_of}
 use Rattle.referred.specs.Answers.{answered_by}
-use Rattle.referred.proofs.Found.{codes_length}
 
--- n codes stand at the front of `found`, which was `old` before
-module _ (s old found : List ℕ) (n : ℕ) (e : n ≡ length (findings_of s)) (f : found ≡ codes_of (findings_of s) ++ drop n old) where
-  abbrev fs : List Finding
-  fs = findings_of s
-
-  count : n ≡ length (codes_of fs)
-  count = e ∙ sym (codes_length fs)
-
+-- n findings stand at the front of `found`, which was `old` before
+module _ (s : List ℕ) (old found : List Finding) (n : ℕ) (e : n ≡ length (findings_of s)) (f : found ≡ findings_of s ++ drop n old) where
   pub inside : n ≤ length found
-  inside = omega (arith, ap length f, length-append (codes_of fs) (drop n old), count)
+  inside = omega (arith, ap length f, length-append (findings_of s) (drop n old), e)
 
-  pub front : take n found ≡ codes_of fs
-  front = ap (take n) f ∙ take_at (codes_of fs) (drop n old) n (sym count)
+  pub front : take n found ≡ findings_of s
+  front = ap (take n) f ∙ take_at (findings_of s) (drop n old) n (sym e)
 
 -- what is said of the sheet decides
 module _ {T : Type 0} (s : List ℕ) (answer old new : List T) where

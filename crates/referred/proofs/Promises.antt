@@ -33,10 +33,10 @@ use Rattle.sheet.proofs.Texts.{Rises, accepted_rises}
 use Rattle.writing.specs.Decimal.{decimal, digits_in}
 use Rattle.referred.specs.declared.Fault.{Fault}
 use Rattle.referred.specs.declared.Fault.TheVariants.{Missing, NotVerb, Unused}
-use Rattle.referred.specs.Report.{verb_fault, is_text, fault_of, fault_at, Finding, found, findings_at, findings_of, finding_line, finding_lines, report_text}
+use Rattle.referred.specs.Report.{verb_fault, is_text, fault_of, fault_at, found, findings_at, findings_of, finding_line, finding_lines, report_text}
 use Rattle.referred.specs.Holds.{VerbLine, HasVerb, NamesText, Holds, AllHold, Ascending, IsFinding}
-use Rattle.referred.specs.Codes.{code_of, codes_of}
-use Rattle.referred.specs.Coded.{fault_in}
+use Rattle.referred.specs.Codes.{code_of, codes_of, fault_in}
+use Rattle.referred.specs.declared.Finding.{Finding}
 use Rattle.referred.specs.Answers.{answered_by, report_outcome, found_outcome}
 use Rattle.referred.proofs.Found.{codes_length, code-back}
 use Rattle.referred.proofs.Sizes.{findings_few, report_size}

@@ -25,7 +25,8 @@ use Rattle.writing.specs.Decimal.{decimal}
 use Rattle.writing.proofs.Sizes.{count-size, more-size}
 use Rattle.referred.specs.declared.Fault.{Fault}
 use Rattle.referred.specs.declared.Fault.TheVariants.{Missing, NotVerb, Unused}
-use Rattle.referred.specs.Report.{verb_fault, is_text, fault_of, fault_at, Finding, found, findings_at, findings_of, finding_line, finding_lines, report_text}
+use Rattle.referred.specs.declared.Finding.{Finding}
+use Rattle.referred.specs.Report.{verb_fault, is_text, fault_of, fault_at, found, findings_at, findings_of, finding_line, finding_lines, report_text}
 
 -- a number below 10,000 has at most four digits
 four_size : (n : ℕ) → n < 10000 → length (decimal n) ≤ 4

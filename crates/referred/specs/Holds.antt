@@ -5,7 +5,8 @@ use Rattle.tables.specs.Tables.{affixes}
 use Rattle.sheet.specs.Letters.{letters_of}
 use Rattle.sheet.specs.Forms.{Entry, key, key_of}
 use Rattle.sheet.specs.Lines.{starts_of}
-use Rattle.referred.specs.Report.{fault_at, Finding}
+use Rattle.referred.specs.Report.{fault_at}
+use Rattle.referred.specs.declared.Finding.{Finding}
 
 -- f is the `w` line of the infinitive that the link e names
 pub record VerbLine (lines : List Entry) (e f : Entry) : Type 0 where

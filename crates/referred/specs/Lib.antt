@@ -4,5 +4,4 @@ pub mod Holds
 pub mod Codes
 pub mod Answers
 -- Machinery: what contracts inside say on the way. Whoever reads the promises need not read it.
-pub mod Coded
 pub mod Told

@@ -9,6 +9,7 @@ use Rattle.sheet.specs.Replies.{Ask, Reply, unknown, told, reply}
 use Rattle.writing.specs.Decimal.{decimal}
 use Rattle.referred.specs.declared.Fault.{Fault}
 use Rattle.referred.specs.declared.Fault.TheVariants.{Missing, NotVerb, Unused}
+use Rattle.referred.specs.declared.Finding.{Finding}
 
 -- a link: the infinitive has no `w` line, or its line lacks v
 abbrev pub verb_fault : Reply → Option Fault
@@ -31,11 +32,7 @@ fault_of ask e =
 abbrev pub fault_at : List ℕ → ℕ → Option Fault
 fault_at s at = fault_of (reply s) (line_at s at)
 
--- a line whose reference does not hold: its first byte, and what is wrong
-pub record Finding : Type 0 where
-  pub line : ℕ
-  pub fault : Fault
-
+-- a line whose reference does not hold, by its first byte and what is wrong, if anything is
 abbrev pub found : ℕ → Option Fault → List Finding
 found at None = []
 found at (Some f) = record { line = at; fault = f } ∷ []

@@ -1,48 +1,64 @@
 // The check of what a sheet's lines refer to, for any sheet: its findings into a lent list, or its report into a lent buffer.
 ghost use Rattle.std.specs.Prelude.{◌≡◌, ◌≤◌, Err, MatchResult, length};
-ghost use Rattle.lookup.specs.Starts.{Room};
 ghost use Rattle.refusals.specs.Refusals.{room_for, output_by};
 ghost use Rattle.sheet.specs.Lines.{sheet_check};
+ghost use Rattle.referred.specs.Codes.{codes_of};
 ghost use Rattle.referred.specs.Answers.{report_outcome, report_left, found_outcome, found_left};
 ghost use Rattle.referred.specs.Told.{Told};
 
 use crate::faults::find_in;
 use crate::lines::Report;
+use crate::{Fault, Finding};
 use lookup::lexicon::Lexicon;
-use lookup::lines::check_lines;
-use lookup::starts::Start;
+use lookup::lines::with_lexicon_into;
 use refusals::Refusal;
 use sheet::check::SheetFault;
-use sheet::limits::{ALL_STARTS, FEW_STARTS, SMALL_BYTES};
+use sheet::limits::{ALL_STARTS, FEW_STARTS};
 use writing::write_whole;
 
-// What is told of the findings of a sheet, into `out`, with two lists that have room for a number for each of its lines.
+// What a list holds before it is filled.
+const NO_FINDING: Finding = Finding {
+    line: 0,
+    fault: Fault::Missing,
+};
+
+// What is told of the findings of an accepted sheet into `out`, with a list that has room for one for each of its lines.
 fn told<T, R, F: FnOnce(&Report<'_>, &mut [T]) -> R>(
-    sheet: &[u8],
-    starts: &mut [Start],
-    found: &mut [u32],
+    sheet: &Lexicon<'_>,
+    found: &mut [Finding],
     out: &mut [T],
     tell: F,
-) -> Result<R, SheetFault>
-    requires room { Room sheet.now starts.old × (length starts.old ≤ length found.old) }
+) -> R
+    requires room { length sheet.now.starts.now ≤ length found.old }
     requires callable { F.IsAlwaysCallable tell }
-    ensures { MatchResult result (λ r. Told sheet.now out.old out.new (λ p o n. F.post tell p o r n)) (λ fault. (sheet_check sheet.now ≡ Err fault) × (out.new ≡ out.old)) }
+    ensures { Told sheet.now.bytes.now out.old out.new (λ p o n. F.post tell p o result n) }
 {
-    let lines = check_lines(sheet, starts)?;
-    let lexicon = Lexicon {
-        bytes: sheet,
-        starts: &starts[..lines],
-    };
-    let n = find_in(&lexicon, found);
+    let n = find_in(sheet, found);
     let report = Report {
-        sheet,
-        codes: &found[..n],
+        sheet: sheet.bytes,
+        findings: &found[..n],
     };
-    Ok(tell(&report, out))
+    tell(&report, out)
 }
 
-// What is told of the findings of any sheet, into `out`, which a faulty sheet leaves as it was. Lists for the lines of any sheet are 39 KB to
-// clear, which a small sheet is spared.
+// The same, with a list of its own. One for the lines of any sheet is 26 KB to clear, which a sheet of few lines is spared.
+fn told_in<T, R, F: FnOnce(&Report<'_>, &mut [T]) -> R>(
+    sheet: &Lexicon<'_>,
+    out: &mut [T],
+    tell: F,
+) -> R
+    requires { F.IsAlwaysCallable tell }
+    ensures { Told sheet.now.bytes.now out.old out.new (λ p o n. F.post tell p o result n) }
+{
+    if sheet.starts.len() <= FEW_STARTS {
+        let mut few = [NO_FINDING; FEW_STARTS];
+        return told(sheet, &mut few, out, tell);
+    }
+    let mut found = [NO_FINDING; ALL_STARTS];
+    told(sheet, &mut found, out, tell)
+}
+
+// What is told of the findings of any sheet, into `out`, which a faulty sheet leaves as it was.
 fn with_findings<T, R, F: FnOnce(&Report<'_>, &mut [T]) -> R>(
     sheet: &[u8],
     out: &mut [T],
@@ -51,25 +67,27 @@ fn with_findings<T, R, F: FnOnce(&Report<'_>, &mut [T]) -> R>(
     requires { F.IsAlwaysCallable tell }
     ensures { MatchResult result (λ r. Told sheet.now out.old out.new (λ p o n. F.post tell p o r n)) (λ fault. (sheet_check sheet.now ≡ Err fault) × (out.new ≡ out.old)) }
 {
-    if sheet.len() <= SMALL_BYTES {
-        let mut few: [Start; FEW_STARTS] = [0; FEW_STARTS];
-        let mut few_found: [u32; FEW_STARTS] = [0; FEW_STARTS];
-        return told(sheet, &mut few, &mut few_found, out, tell);
-    }
-    let mut starts: [Start; ALL_STARTS] = [0; ALL_STARTS];
-    let mut found: [u32; ALL_STARTS] = [0; ALL_STARTS];
-    told(sheet, &mut starts, &mut found, out, tell)
+    with_lexicon_into(
+        sheet,
+        out,
+        |lexicon, out|
+            requires { F.IsAlwaysCallable tell }
+            ensures { Told lexicon.now.bytes.now out.old out.new (λ p o n. F.post tell p o result n) }
+        { told_in(lexicon, out, tell) },
+    )
 }
 
-// Copies the codes of the findings to the front of a list, and gives how many they are; a list that is shorter is refused and left.
+// Stores the codes of the findings at the front of a list, and gives how many they are; a list that is shorter is refused and left.
 fn put_codes(report: &Report<'_>, out: &mut [u32]) -> Result<usize, Refusal>
-    ensures { (result ≡ room_for (length report.now.codes.now) (length out.old)) × (out.new ≡ output_by result report.now.codes.now out.old) }
+    ensures { (result ≡ room_for (length (codes_of report.now.findings.now)) (length out.old)) × (out.new ≡ output_by result (codes_of report.now.findings.now) out.old) }
 {
-    let n = report.codes.len();
+    let n = report.findings.len();
     if out.len() < n {
         return Err(Refusal::OutputTooShort);
     }
-    out[..n].copy_from_slice(report.codes);
+    for (i, finding) in report.findings.iter().enumerate() {
+        out[i] = finding.code();
+    }
     Ok(n)
 }
 

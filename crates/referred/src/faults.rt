@@ -5,11 +5,9 @@ ghost use Rattle.sheet.specs.Lines.{line_at};
 ghost use Rattle.sheet.specs.Replies.{reply};
 ghost use Rattle.tables.specs.Tables.{affixes};
 ghost use Rattle.referred.specs.Report.{is_text, verb_fault, fault_at, findings_of};
-ghost use Rattle.referred.specs.Codes.{code_for, codes_of};
 
-use crate::Fault;
+use crate::{Fault, Finding};
 use lookup::lexicon::Lexicon;
-use lookup::starts::Start;
 use sheet::form::FormAt;
 use sheet::letters::read_letters;
 
@@ -56,24 +54,10 @@ fn line_fault(sheet: &Lexicon<'_>, line: &FormAt<'_>) -> Option<Fault>
     }
 }
 
-// What is stored of a line and its fault: the fault's number in the lowest byte, above it the line's first byte.
-fn code_of(at: usize, fault: Fault) -> u32
-    requires { at < 65536 }
-    ensures { result ≡ code_for at fault }
-{
-    let place = at as u32 * 256;
-    match fault {
-        Fault::Missing => place + 1,
-        Fault::NotVerb => place + 2,
-        Fault::Unused => place + 3,
-    }
-}
-
-// Stores the codes of the lines whose reference does not hold at the front of `out`, in the sheet's order, and gives how many there are.
-// The sheet is accepted, `starts` is its list, and `out` has room for each of its lines.
-pub(crate) fn find_in(sheet: &Lexicon<'_>, out: &mut [u32]) -> usize
+// Stores the lines whose reference does not hold at the front of `out`, in the sheet's order, and gives how many there are.
+pub(crate) fn find_in(sheet: &Lexicon<'_>, out: &mut [Finding]) -> usize
     requires { length sheet.now.starts.now ≤ length out.old }
-    ensures { (result ≡ length (findings_of sheet.now.bytes.now)) × (out.new ≡ codes_of (findings_of sheet.now.bytes.now) ++ drop result out.old) }
+    ensures { (result ≡ length (findings_of sheet.now.bytes.now)) × (out.new ≡ findings_of sheet.now.bytes.now ++ drop result out.old) }
 {
     let mut n: usize = 0;
     for &start in sheet.starts {
@@ -85,7 +69,7 @@ pub(crate) fn find_in(sheet: &Lexicon<'_>, out: &mut [u32]) -> usize
         let Some(fault) = line_fault(sheet, &line) else {
             continue;
         };
-        out[n] = code_of(at, fault);
+        out[n] = Finding { line: start, fault };
         n += 1;
     }
     n

@@ -3,42 +3,20 @@ ghost use Rattle.std.specs.Prelude.{◌≡◌, map, take};
 ghost use Rattle.runs.specs.Runs.{cmp};
 ghost use Rattle.text.specs.Characters.{chars};
 ghost use Rattle.decomposition.specs.Parts.{root_text};
-ghost use Rattle.tables.specs.Rows.{suffixes, prefix_labels};
+ghost use Rattle.tables.specs.Rows.{suffixes};
 ghost use Rattle.roots.specs.Rank.{descending, text_of, cmp_texts, prefix_texts, suffix_texts, key_order, rank_of};
 
 use crate::RootCandidate;
 use decomposition::{Parts, root_of};
 use runs::compare;
 use std::cmp::Ordering;
-use tables::{prefix_label, prefix_rows, suffix, suffix_rows};
-
-// The label of row k of SUFFIXES, nothing where there is no such row.
-fn suffix_text(k: u8) -> &'static [u8]
-    ensures { result.now ≡ text_of suffixes k }
-{
-    let i = k as usize;
-    if i < suffix_rows().len() {
-        return suffix(i);
-    }
-    b""
-}
-
-// The label of row k of PREFIX_FORMS, nothing where there is no such row.
-fn prefix_text(k: u8) -> &'static [u8]
-    ensures { result.now ≡ text_of prefix_labels k }
-{
-    let i = k as usize;
-    if i < prefix_rows().len() {
-        return prefix_label(i);
-    }
-    b""
-}
+use tables::{prefix_label, suffix};
 
 // The order of two suffix labels, given by their rows.
 fn label_order(a: u8, b: u8) -> Ordering
     ensures { result ≡ cmp (text_of suffixes a) (text_of suffixes b) }
 {
-    compare(suffix_text(a), suffix_text(b))
+    compare(suffix(usize::from(a)), suffix(usize::from(b)))
 }
 
 // The order of two lists of suffix labels, given by their rows, label by label; a list stands before each longer one that it begins.
@@ -72,8 +50,8 @@ fn prefix_order(a: Parts, b: Parts) -> Ordering
     ensures { result ≡ cmp_texts (prefix_texts a) (prefix_texts b) }
 {
     a.prefix
-        .map(|k| prefix_text(k))
-        .cmp(&b.prefix.map(|k| prefix_text(k)))
+        .map(|k| prefix_label(usize::from(k)))
+        .cmp(&b.prefix.map(|k| prefix_label(usize::from(k))))
 }
 
 // The order of two roots by their characters: the longer one first.

@@ -20,20 +20,18 @@ pub fn prefix_rows() -> &'static [(&'static str, &'static str)]
     &rows::PREFIX_FORMS
 }
 
-// The label of row k of PREFIX_FORMS. It asks for a row that is there.
+// The label of row k of PREFIX_FORMS, the empty text where there is no such row.
 pub fn prefix_label(k: usize) -> &'static [u8]
-    requires { k < 30 }
     ensures { result.now ≡ get_or prefix_labels k [] }
 {
-    prefix_rows()[k].0.as_bytes()
+    prefix_rows().get(k).map_or(b"", |row| row.0.as_bytes())
 }
 
-// The surface form of row k of PREFIX_FORMS. It asks for a row that is there.
+// The surface form of row k of PREFIX_FORMS, the empty text where there is no such row.
 pub fn prefix_form(k: usize) -> &'static [u8]
-    requires { k < 30 }
     ensures { result.now ≡ get_or prefix_forms k [] }
 {
-    prefix_rows()[k].1.as_bytes()
+    prefix_rows().get(k).map_or(b"", |row| row.1.as_bytes())
 }
 
 // The 25 texts of the suffix chains in the order of paths: PLURAL_MARKERS in rows 0 and 1, CASE_MARKERS in rows 2 to 17, PARTICLES
@@ -46,12 +44,11 @@ pub fn affix_rows() -> &'static [&'static str]
     &rows::AFFIXES
 }
 
-// Row k of the 25 texts. It asks for a row that is there.
+// Row k of the 25 texts, the empty text where there is no such row.
 pub fn affix(k: usize) -> &'static [u8]
-    requires { k < 25 }
     ensures { result.now ≡ get_or affixes k [] }
 {
-    affix_rows()[k].as_bytes()
+    affix_rows().get(k).map_or(b"", |text| text.as_bytes())
 }
 
 // SUFFIXES, 24 rows, in the source's order.
@@ -63,12 +60,11 @@ pub fn suffix_rows() -> &'static [&'static str]
     &rows::SUFFIXES
 }
 
-// Row k of SUFFIXES. It asks for a row that is there.
+// Row k of SUFFIXES, the empty text where there is no such row.
 pub fn suffix(k: usize) -> &'static [u8]
-    requires { k < 24 }
     ensures { result.now ≡ get_or suffixes k [] }
 {
-    suffix_rows()[k].as_bytes()
+    suffix_rows().get(k).map_or(b"", |text| text.as_bytes())
 }
 
 // STRIP_SUFFIXES, 22 rows, in the source's order.

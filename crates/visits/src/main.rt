@@ -14,7 +14,7 @@ ghost use Rattle.visits.specs.Printed.{lines_of, unended, last_line, printed};
 use crate::lines::{put_last, put_lines};
 use arrayvec::ArrayVec;
 use lookup::lexicon::Lexicon;
-use lookup::lines::check_lines;
+use lookup::lines::lexicon_of;
 use lookup::starts::Start;
 use refusals::Refusal;
 use sheet::limits::ALL_STARTS;
@@ -71,15 +71,9 @@ fn answer<R: Read, W: Write>(words: &mut R, told: &mut W, sheet: &[u8]) -> io::R
         Appends (W.contents told.old) (W.contents told.new) (printed sheet.now input))) }
 {
     let mut starts: [Start; ALL_STARTS] = [0; ALL_STARTS];
-    match check_lines(sheet, &mut starts) {
+    match lexicon_of(sheet, &mut starts) {
         Err(fault) => say_refused(told, Refusal::from(fault)),
-        Ok(lines) => {
-            let lexicon = Lexicon {
-                bytes: sheet,
-                starts: &starts[..lines],
-            };
-            answer_all(words, told, &lexicon)
-        }
+        Ok(lexicon) => answer_all(words, told, &lexicon),
     }
 }
 

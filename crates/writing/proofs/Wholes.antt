@@ -1,9 +1,10 @@
 -- What is given where the buffer has room for the whole text. Every function with a buffer that is always long enough cites these.
 -- Assumes nothing.
 use Rattle.std.specs.Prelude.{Err, Ok, Result}
+use Rattle.std.specs.Result.{result_unwrap_or}
 use Prim.Native.Nat.{ℕ, ◌+◌, ◌≤◌, ◌<◌}
 use native.Mathlib.Omega.{arith}
-use mathlib.Core.Path.{◌≡◌, sym, ap, subst, ◌∙◌}
+use mathlib.Core.Path.{◌≡◌, refl, sym, ap, subst, ◌∙◌}
 use mathlib.Core.Bool.{true}
 use mathlib.Core.List.{List, ◌++◌}
 use lib.Dec.{leb}
@@ -63,6 +64,14 @@ module _ (text out new : List ℕ) (r : Result ℕ Refusal) (room : length text 
 
   pub never_short : (q : Refusal) → r ≡ Err q → ⊥
   never_short q g = let b : r ≡ Ok (length text) = rw fits at a.given in let z : ◌≡◌ {A = ℕ} 0 1 = cc in omega arith
+
+  -- and what is given of it is all of the text
+  pub written : Whole text out new (result_unwrap_or r 0)
+  written = by r refl
+    where
+      by : (x : Result ℕ Refusal) → r ≡ x → Whole text out new (result_unwrap_or x 0)
+      by (Ok n) e = whole n e
+      by (Err q) e = absurd (never_short q e)
 
 pub answer_as : {t u old new : List ℕ} {r : Result ℕ Refusal} → t ≡ u → Answer t old new r → Answer u old new r
 answer_as {old = old} {new = new} {r = r} e a = subst (λ (x : List ℕ). Answer x old new r) e a

@@ -16,4 +16,4 @@ returns-then-out-lt33 c =
 pub returns : goal.returns
 returns c =
     let a = c.args in
-    stored_long 0 (morpheme_bytes a.m) a.out.now _ c.if-out-lt33.false (c.put_parts.ensures ∙ ap (λ (l : List ℕ). l ++ drop 33 a.out.now) (morpheme-bytes a.m c.origin_byte-origin.ensures))
+    stored_long 0 (morpheme_bytes a.m) a.out.now _ c.if-out-lt33.false (c.put_parts.ensures ∙ ap (λ (l : List ℕ). l ++ drop 33 a.out.now) (morpheme-bytes a.m c.origin_number-origin.ensures.0))

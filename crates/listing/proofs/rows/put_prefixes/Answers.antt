@@ -1,31 +1,19 @@
--- `listing::rows::put_prefixes` meets its contract: what is put so far and what is to come are all of it. Assumes nothing.
-use Prim.Native.Nat.{ℕ, ◌≤◌}
+-- `rows::put_prefixes` meets its contract: what is put of each element is its text. Assumes nothing.
+use Prim.Native.Nat.{ℕ}
 use native.Mathlib.Omega.{arith}
-use mathlib.Core.Path.{◌≡◌, refl, sym, ap, ◌∙◌}
+use mathlib.Core.Path.{◌≡◌, ap, ◌∙◌}
 use mathlib.Core.List.{List}
 use lib.ListN.{length}
-use Rattle.writing.specs.Writers.{with_text}
-use Rattle.writing.specs.Refused.{parted, parted_from}
-use Rattle.listing.specs.Texts.{label_text}
 use Rattle.std.proofs.Common.{rules}
-use Rattle.listing.proofs.Parted.{parted_turn, none_left, counted_texts}
+use Rattle.writing.specs.Writers.{with_text}
+use Rattle.writing.specs.Refused.{parted}
+use Rattle.listing.specs.Texts.{label_text}
+use Rattle.listing.proofs.Parted.{counted_texts}
 use Rattle.listing.proofs.rows.put_prefixes.Goals as goal
-
-pub loop-i-init : goal.loop-i-init
-loop-i-init c = refl
-
-pub loop-i-preserved : goal.loop-i-preserved
-loop-i-preserved c =
-    let xs = c.args.row.prefixes in
-    let l : length xs ≡ 2 = search rules in
-    let fits : c.min-n.result ≤ length xs = omega (arith, c.min-n.ensures, l) in
-    cc (c.put.ensures, c.label_text.ensures, c.put_gap.ensures, parted_turn label_text xs c.min-n.result fits c.loop-i.w c.loop-i.i 0 c.loop-i-test.true, c.loop-i.invariant)
 
 pub returns : goal.returns
 returns c =
     let xs = c.args.row.prefixes in
     let l : length xs ≡ 2 = search rules in
-    let fits : c.min-n.result ≤ length xs = omega (arith, c.min-n.ensures, l) in
-    ap (λ (ts : List (List ℕ)). with_text c.loop-i.w (parted_from c.loop-i.i ts)) (sym (none_left label_text xs c.min-n.result fits c.loop-i.i c.loop-i-test.false))
-    ∙ c.loop-i.invariant
-    ∙ ap (λ (ts : List (List ℕ)). with_text c.args.w.now (parted ts)) (counted_texts label_text xs c.min-n.result fits c.args.row.prefix_count (omega (arith, c.min-n.ensures, c.from.ensures, l)))
+    c.put_parted.ensures label_text (λ w x v k. search rules)
+    ∙ ap (λ (ts : List (List ℕ)). with_text c.args.w.now (parted ts)) (counted_texts label_text xs c.min-n.result c.args.row.prefix_count (omega (arith, c.min-n.ensures, c.from.ensures, l)))

@@ -22,8 +22,8 @@ written-shared s t from b e f =
     take_all (length t - from) (drop from t) (omega (arith, length-drop from t)) ∙ ap (λ (k : ℕ). drop k t) f ∙ ap (λ (x : List ℕ). drop (first_length x) x) e ∙ rw b
 
 pub returns-then-not-s : goal.returns-then-not-s
-returns-then-not-s c = written-plain c.args.s c.affix_text-text.result.now (not-true c.args.s.shared c.if-not-s.true) c.affix_text-text.ensures
+returns-then-not-s c = written-plain c.args.s c.affix-text.result.now (not-true c.args.s.shared c.if-not-s.true) (c.affix-text.ensures ∙ ap (λ (k : ℕ). get_or affixes k []) c.from.ensures)
 
 pub returns : goal.returns
 returns c =
-    written-shared c.args.s c.affix_text-text.result.now c.first_char_len.result (not-false c.args.s.shared c.if-not-s.false) c.affix_text-text.ensures c.first_char_len.ensures.0
+    written-shared c.args.s c.affix-text.result.now c.first_char_len.result (not-false c.args.s.shared c.if-not-s.false) (c.affix-text.ensures ∙ ap (λ (k : ℕ). get_or affixes k []) c.from.ensures) c.first_char_len.ensures.0

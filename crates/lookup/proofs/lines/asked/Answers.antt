@@ -1,9 +1,12 @@
--- `lines::asked` meets its contract: the starts stored of an accepted sheet stand for it. Assumes nothing.
-use mathlib.Core.Path.{refl}
-use Rattle.lookup.proofs.Readied.{indexed}
+-- `lines::asked` meets its contract: it is asked of the sheet's lexicon. Assumes nothing.
+use mathlib.Core.Path.{◌≡◌, subst, refl}
+use mathlib.Core.List.{List}
+use Prim.Native.Nat.{ℕ}
+use Rattle.std.specs.Prelude.{Ok}
+use Rattle.sheet.specs.Lines.{sheet_check}
 use Rattle.lookup.proofs.lines.asked.Goals as goal
 
 pub returns : goal.returns
 returns g c =
-    let k = indexed c.args.sheet.now _ _ c.in_ok-lines.lines c.in_ok-lines.ensures in
-    record { accepted = k.0; lexicon = _; of_sheet = refl; given = c.ask.ensures }
+    let e = c.in_ok-lexicon.ensures in
+    record { accepted = subst (λ (s : List ℕ). sheet_check s ≡ Ok tt) e c.in_ok-lexicon.lexicon.indexed.accepted; lexicon = _; of_sheet = e; lent = _; left = _; before = refl; after = refl; given = c.ask.ensures }

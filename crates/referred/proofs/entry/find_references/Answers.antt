@@ -23,6 +23,6 @@ returns c =
     let s = c.args.sheet.now in
     let e = c.in_ok-with_findings.ensures in
     let h = e.given in
-    let p : c.in_ok-with_findings.field-0 ≡ room_for (length e.report.now.codes.now) (length e.lent.now) = search rules in
-    let q : e.left.now ≡ output_by c.in_ok-with_findings.field-0 e.report.now.codes.now e.lent.now = search rules in
+    let p : c.in_ok-with_findings.field-0 ≡ room_for (length (codes_of e.report.now.findings.now)) (length e.lent.now) = search rules in
+    let q : e.left.now ≡ output_by c.in_ok-with_findings.field-0 (codes_of e.report.now.findings.now) e.lent.now = search rules in
     given s (codes_of (findings_of s)) c.args.out.now _ e.accepted _ (rw (e.report.now.found, e.of_sheet, e.before) at p) (rw (e.report.now.found, e.of_sheet, e.before, e.after) at q)

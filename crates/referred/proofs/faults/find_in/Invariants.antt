@@ -1,4 +1,4 @@
--- `faults::find_in` meets its contract: the codes kept so far and those of the lines to come are all of them. Assumes nothing.
+-- `faults::find_in` meets its contract: the findings kept so far and those of the lines to come are all of them. Assumes nothing.
 use Rattle.referred.proofs.Kept.{Kept}
 use Rattle.referred.proofs.faults.find_in.Given as goal
 

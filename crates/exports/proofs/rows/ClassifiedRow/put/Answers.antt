@@ -23,5 +23,5 @@ pub returns : goal.returns
 returns c =
     let a = c.args in
     let b = c.to_le_bytes-bits.result in
-    behind-front (reading_bytes a.self.reading) (c.origin_byte.result ∷ c.source_byte.result ∷ get_or b 0 0 ∷ get_or b 1 0 ∷ get_or b 2 0 ∷ get_or b 3 0 ∷ []) a.out.now _ _ c.put_reading.ensures refl c.copy_from_slice.ensures.after
-    ∙ ap (λ (l : List ℕ). l ++ drop 28 a.out.now) (tail-bytes a.self c.origin_byte.ensures c.source_byte.ensures c.bits_of.ensures (omega arith) c.to_le_bytes-bits.ensures)
+    behind-front (reading_bytes a.self.reading) (c.origin_number.result ∷ c.source_number.result ∷ get_or b 0 0 ∷ get_or b 1 0 ∷ get_or b 2 0 ∷ get_or b 3 0 ∷ []) a.out.now _ _ c.put_reading.ensures refl c.copy_from_slice.ensures.after
+    ∙ ap (λ (l : List ℕ). l ++ drop 28 a.out.now) (tail-bytes a.self c.origin_number.ensures.0 c.source_number.ensures.0 c.bits_of.ensures (omega arith) c.to_le_bytes-bits.ensures)
