@@ -1,18 +1,22 @@
 -- What a row's strip of a piece leaves, and a visit of what it leaves, as the walk says them: the proof of the walk cites these.
 -- Assumes nothing.
-use Rattle.std.proofs.Common.{◌≡◌, ℕ, ◌+◌, ◌-◌, ◌≤◌, Bool, Option, Some, None, List, [], length, take, get_or, refl, sym, ap, ◌∙◌, subst, arith, length-take-le}
+use Rattle.std.proofs.Common.{◌≡◌, ℕ, ◌+◌, ◌-◌, ◌≤◌, Bool, Option, Some, None, List, [], length, take, get_or, refl, sym, ap, ap₂, ◌∙◌, subst, arith, length-take-le}
 use Rattle.std.specs.Prelude.{IfSome}
 use Rattle.tables.specs.Tables.{affixes}
 use Rattle.strips.specs.Suffix.{rests_of}
 use Rattle.strips.specs.declared.suffix.Rests.{Rests}
 use Rattle.strips.proofs.Remainders.{Inside, rests_inside}
-use Rattle.sheet.specs.Replies.{Ask}
+use Rattle.sheet.specs.Replies.{Ask, reply}
+use Rattle.lookup.specs.declared.asked.Asked.{Asked}
 use Rattle.ranking.specs.Lists.{Rows, plus_all}
 use Rattle.ranking.specs.declared.AffixKind.{AffixKind}
 use Rattle.paths.specs.declared.Chain.{Chain}
 use Rattle.paths.specs.Readings.{segment_of, kind_of}
 use Rattle.paths.specs.Walk.{pushed_of, piece_walk}
-use Rattle.paths.specs.Weighed.{weighed}
+use Rattle.paths.specs.Chains.{rows_after}
+use Rattle.paths.specs.Weighed.{times_after, weighed}
+use Rattle.analysis.specs.Pieces.{Stripped}
+use Rattle.analysis.specs.declared.piece.Piece.{Piece}
 use Rattle.analysis.proofs.Strips.{Lefts, lefts}
 
 -- what is not some number is none
@@ -39,24 +43,42 @@ module _ (word : List ℕ) (end k : ℕ) (within : end ≤ length word) (r : Res
   pub shared_in : (n : ℕ) → r.shared ≡ Some n → n ≤ end
   shared_in n = some_in r.shared n inside_are.shared_in
 
--- the chain with the row's suffix, marked plain or shared
-module _ (ask : Ask) (chain : Chain) (k : ℕ) (kind : AffixKind) (ek : kind ≡ kind_of ask k) (b : Bool) (next : Chain)
-    (e : next ≡ pushed_of chain (record { label = k; kind = kind; shared = b })) where
-  pub pushed_is : next ≡ pushed_of chain (segment_of ask (record { row = k; is_shared = b }))
-  pushed_is = e ∙ ap (λ (x : AffixKind). pushed_of chain (record { label = k; kind = x; shared = b })) ek
+-- the piece that a strip leaves, with the row's suffix marked plain or shared
+module _ (at p : Piece) (end k : ℕ) (kind : AffixKind) (b : Bool) (e : Stripped at end (record { label = k; kind = kind; shared = b }) p)
+    (ek : kind ≡ kind_of (reply at.asked.now.sheet.now.bytes.now) k) where
+  abbrev ask : Ask
+  ask = reply at.asked.now.sheet.now.bytes.now
 
-  pub pushed_count : next.count ≡ chain.count + 1
-  pushed_count = ap (λ (x : Chain). x.count) pushed_is
+  -- the chain with the suffix
+  abbrev pub next : Chain
+  next = pushed_of at.chain (segment_of ask (record { row = k; is_shared = b }))
+
+  chained : p.chain ≡ next
+  chained = e.chained ∙ ap (λ (x : AffixKind). pushed_of at.chain (record { label = k; kind = x; shared = b })) ek
+
+  pub longer : p.chain.count ≡ at.chain.count + 1
+  longer = ap (λ (x : Chain). x.count) chained
+
+  depth : 4 - p.chain.count ≡ 3 - at.chain.count
+  depth = omega (arith, longer)
 
   -- a visit of what is left, with one strip fewer to come, as the walk says it
-  pub visited : {x : Rows} (word : List ℕ) (y : Rows) (surface rows : ℕ) (left : List ℕ) → x ≡ plus_all word y (piece_walk (4 - next.count) ask surface next rows left)
-      → x ≡ plus_all word y (piece_walk (3 - chain.count) ask surface next rows left)
-  visited word y surface rows left p =
-      let n : 4 - next.count ≡ 3 - chain.count = omega (arith, pushed_count) in
-      p ∙ ap (λ (d : ℕ). plus_all word y (piece_walk d ask surface next rows left)) n
+  pub visited : {x : Rows} (y : Rows)
+      → x ≡ plus_all p.asked.now.word.now y (piece_walk (4 - p.chain.count) (reply p.asked.now.sheet.now.bytes.now) p.asked.now.surface p.chain p.rows (take p.end p.asked.now.word.now))
+      → x ≡ plus_all at.asked.now.word.now y (piece_walk (3 - at.chain.count) ask at.asked.now.surface next (rows_after k) (take end at.asked.now.word.now))
+  visited {x} y h =
+      h
+      ∙ ap (λ (d : ℕ). plus_all p.asked.now.word.now y (piece_walk d (reply p.asked.now.sheet.now.bytes.now) p.asked.now.surface p.chain p.rows (take p.end p.asked.now.word.now))) depth
+      ∙ ap (λ (q : Asked). plus_all q.word.now y (piece_walk (3 - at.chain.count) (reply q.sheet.now.bytes.now) q.surface p.chain p.rows (take p.end q.word.now))) e.same
+      ∙ ap (λ (c : Chain). plus_all at.asked.now.word.now y (piece_walk (3 - at.chain.count) ask at.asked.now.surface c p.rows (take p.end at.asked.now.word.now))) chained
+      ∙ ap₂ (λ (r n : ℕ). plus_all at.asked.now.word.now y (piece_walk (3 - at.chain.count) ask at.asked.now.surface next r (take n at.asked.now.word.now))) e.follows e.ends
 
   -- and what is counted there
-  pub visited_count : {v : ℕ} (rows times : ℕ) (left : List ℕ) → v ≡ weighed (4 - next.count) ask rows times left → v ≡ weighed (3 - chain.count) ask rows times left
-  visited_count rows times left p =
-      let n : 4 - next.count ≡ 3 - chain.count = omega (arith, pushed_count) in
-      p ∙ ap (λ (d : ℕ). weighed d ask rows times left) n
+  pub visited_count : {v : ℕ} → v ≡ weighed (4 - p.chain.count) (reply p.asked.now.sheet.now.bytes.now) p.rows p.times (take p.end p.asked.now.word.now)
+      → v ≡ weighed (3 - at.chain.count) ask (rows_after k) (times_after at.times k) (take end at.asked.now.word.now)
+  visited_count {v} h =
+      h
+      ∙ ap (λ (d : ℕ). weighed d (reply p.asked.now.sheet.now.bytes.now) p.rows p.times (take p.end p.asked.now.word.now)) depth
+      ∙ ap (λ (q : Asked). weighed (3 - at.chain.count) (reply q.sheet.now.bytes.now) p.rows p.times (take p.end q.word.now)) e.same
+      ∙ ap₂ (λ (r t : ℕ). weighed (3 - at.chain.count) ask r t (take p.end at.asked.now.word.now)) e.follows e.led
+      ∙ ap (λ (n : ℕ). weighed (3 - at.chain.count) ask (rows_after k) (times_after at.times k) (take n at.asked.now.word.now)) e.ends

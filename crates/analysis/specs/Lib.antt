@@ -4,3 +4,4 @@ pub mod Answers
 pub mod Supports
 pub mod Fronts
 pub mod Places
+pub mod Pieces

@@ -10,11 +10,13 @@ ghost use Rattle.paths.specs.Walk.{word_walk};
 ghost use Rattle.analysis.specs.Answers.{collected, list_of, answer_of, visits_given, visits_answer, best_of, has_of};
 
 use crate::origins::classify_rows;
+use crate::piece::Piece;
 use crate::suffixes::visit;
 use lookup::asked::Asked;
 use lookup::lexicon::Lexicon;
 use lookup::lines::with_lexicon;
-use paths::{Chain, Piece, ROWS};
+use paths::{Chain, ROWS};
+use progressive::find::has_supported_progressive_form;
 use ranking::kept::Kept;
 use ranking::{Classified, Listing, blank};
 use refusals::Refusal;
@@ -46,6 +48,7 @@ pub fn keep_readings(word: &[u8], sheet: &Lexicon<'_>, kept: &mut Kept) -> usize
         surface: text::characters::count(word) as u16,
     };
     let whole = Piece {
+        asked: &asked,
         end: word.len(),
         chain: Chain {
             segments: [blank(); 4],
@@ -53,8 +56,9 @@ pub fn keep_readings(word: &[u8], sheet: &Lexicon<'_>, kept: &mut Kept) -> usize
         },
         rows: ROWS,
         times: 1,
+        progressive: has_supported_progressive_form(sheet, word),
     };
-    let visits = visit(&asked, whole, kept);
+    let visits = visit(&whole, kept);
     unless_empty(word.len(), visits)
 }
 

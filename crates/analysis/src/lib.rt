@@ -4,7 +4,9 @@
 pub mod entry;
 pub mod fronts;
 pub mod origins;
+mod piece;
 pub mod prefixes;
 pub mod roots;
+mod stripped;
 pub mod suffixes;
 pub mod support;

@@ -24,13 +24,3 @@ pub struct Prefixes {
     pub rows: [u8; 2],
     pub count: u8,
 }
-
-// Where the walk is: at the piece that is the word's first `end` bytes, with the suffixes stripped behind it; of it, the first `rows`
-// rows may be stripped next. So many `times` the source's strips lead to it.
-#[derive(Clone, Copy)]
-pub struct Piece {
-    pub end: usize,
-    pub chain: Chain,
-    pub rows: u8,
-    pub times: u8,
-}

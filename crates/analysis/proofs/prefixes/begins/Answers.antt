@@ -10,4 +10,4 @@ use Rattle.analysis.proofs.prefixes.begins.Goals as goal
 pub returns : goal.returns
 returns c =
     c.begins_with.ensures
-    ∙ ap (λ (t : List ℕ). begins_with t (between c.args.word.now c.args.«from» c.args.stem)) (c.prefix_form.ensures ∙ ap form_of c.from.ensures)
+    ∙ ap (λ (t : List ℕ). begins_with t (between c.args.at.now.asked.now.word.now c.args.«from» c.args.at.now.end)) (c.prefix_form.ensures ∙ ap form_of c.from.ensures)

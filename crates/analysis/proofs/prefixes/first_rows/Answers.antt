@@ -16,37 +16,32 @@ pub loop-k-init : goal.loop-k-init
 loop-k-init c = (omega arith, refl, omega arith)
 
 pub begins-requires : goal.begins-requires
-begins-requires c = let p = c.requires in (omega arith, p.0, c.loop-k-test.true)
-
-pub first_row-v-requires : goal.first_row-v-requires
-first_row-v-requires c =
-    let p = c.requires in
-    (p.0, c.loop-k-test.true, p.1)
+begins-requires c = omega arith
 
 -- the count stays small: it is at most that of all rows
 pub overflow_add-v : goal.overflow_add-v
 overflow_add-v c =
     let a = c.args in
-    let e = visits_turn (prefix_visits 1 (reply a.asked.now.sheet.now.bytes.now)) (take a.at.end a.asked.now.word.now) c.loop-k.k c.loop-k.v _ c.loop-k-test.true c.loop-k.invariant.2 c.first_row-v.ensures.1 in
-    omega (arith, e, first-few (reply a.asked.now.sheet.now.bytes.now) (take a.at.end a.asked.now.word.now))
+    let e = visits_turn (prefix_visits 1 (reply a.at.now.asked.now.sheet.now.bytes.now)) (take a.at.now.end a.at.now.asked.now.word.now) c.loop-k.k c.loop-k.v _ c.loop-k-test.true c.loop-k.invariant.2 c.first_row-v.ensures.1 in
+    omega (arith, e, first-few (reply a.at.now.asked.now.sheet.now.bytes.now) (take a.at.now.end a.at.now.asked.now.word.now))
 
 pub loop-k-preserved : goal.loop-k-preserved
 loop-k-preserved c =
     let a = c.args in (
       omega (arith, c.loop-k-test.true),
-      c.loop-k.invariant.1 ∙ form_turn a.asked.now.word.now (each a.asked.now.word.now a.asked.now.sheet.now.bytes.now a.at.end a.at.chain a.asked.now.surface) (take a.at.end a.asked.now.word.now) c.loop-k.k all_forms c.loop-k.kept _ c.loop-k-test.true c.first_row-v.ensures.0,
-      visits_turn (prefix_visits 1 (reply a.asked.now.sheet.now.bytes.now)) (take a.at.end a.asked.now.word.now) c.loop-k.k c.loop-k.v _ c.loop-k-test.true c.loop-k.invariant.2 c.first_row-v.ensures.1,
+      c.loop-k.invariant.1 ∙ form_turn a.at.now.asked.now.word.now (each a.at.now.asked.now.word.now a.at.now.asked.now.sheet.now.bytes.now a.at.now.end a.at.now.chain a.at.now.asked.now.surface) (take a.at.now.end a.at.now.asked.now.word.now) c.loop-k.k all_forms c.loop-k.kept _ c.loop-k-test.true c.first_row-v.ensures.0,
+      visits_turn (prefix_visits 1 (reply a.at.now.asked.now.sheet.now.bytes.now)) (take a.at.now.end a.at.now.asked.now.word.now) c.loop-k.k c.loop-k.v _ c.loop-k-test.true c.loop-k.invariant.2 c.first_row-v.ensures.1,
     )
 
 pub loop-k-preserved-then-not-begins : goal.loop-k-preserved-then-not-begins
 loop-k-preserved-then-not-begins c =
     let a = c.args in (
       omega (arith, c.loop-k-test.true),
-      c.loop-k.invariant.1 ∙ form_pass a.asked.now.word.now (each a.asked.now.word.now a.asked.now.sheet.now.bytes.now a.at.end a.at.chain a.asked.now.surface) (take a.at.end a.asked.now.word.now) c.loop-k.k all_forms c.loop-k.kept c.loop-k-test.true (ap (begins_with (form_of c.loop-k.k)) (sym (whole-front a.asked.now.word.now a.at.end)) ∙ sym c.begins.ensures ∙ c.if-not-begins.true),
-      visits_pass (prefix_visits 1 (reply a.asked.now.sheet.now.bytes.now)) (take a.at.end a.asked.now.word.now) c.loop-k.k c.loop-k.v c.loop-k-test.true c.loop-k.invariant.2 (ap (begins_with (form_of c.loop-k.k)) (sym (whole-front a.asked.now.word.now a.at.end)) ∙ sym c.begins.ensures ∙ c.if-not-begins.true),
+      c.loop-k.invariant.1 ∙ form_pass a.at.now.asked.now.word.now (each a.at.now.asked.now.word.now a.at.now.asked.now.sheet.now.bytes.now a.at.now.end a.at.now.chain a.at.now.asked.now.surface) (take a.at.now.end a.at.now.asked.now.word.now) c.loop-k.k all_forms c.loop-k.kept c.loop-k-test.true (ap (begins_with (form_of c.loop-k.k)) (sym (whole-front a.at.now.asked.now.word.now a.at.now.end)) ∙ sym c.begins.ensures ∙ c.if-not-begins.true),
+      visits_pass (prefix_visits 1 (reply a.at.now.asked.now.sheet.now.bytes.now)) (take a.at.now.end a.at.now.asked.now.word.now) c.loop-k.k c.loop-k.v c.loop-k-test.true c.loop-k.invariant.2 (ap (begins_with (form_of c.loop-k.k)) (sym (whole-front a.at.now.asked.now.word.now a.at.now.end)) ∙ sym c.begins.ensures ∙ c.if-not-begins.true),
     )
 
 pub returns : goal.returns
 returns c =
     let a = c.args in
-    (sym (c.loop-k.invariant.1 ∙ form-end a.asked.now.word.now (each a.asked.now.word.now a.asked.now.sheet.now.bytes.now a.at.end a.at.chain a.asked.now.surface) (take a.at.end a.asked.now.word.now) c.loop-k.k all_forms c.loop-k.kept c.loop-k-test.false), visits_end (prefix_visits 1 (reply a.asked.now.sheet.now.bytes.now)) (take a.at.end a.asked.now.word.now) c.loop-k.k c.loop-k.v c.loop-k-test.false c.loop-k.invariant.2)
+    (sym (c.loop-k.invariant.1 ∙ form-end a.at.now.asked.now.word.now (each a.at.now.asked.now.word.now a.at.now.asked.now.sheet.now.bytes.now a.at.now.end a.at.now.chain a.at.now.asked.now.surface) (take a.at.now.end a.at.now.asked.now.word.now) c.loop-k.k all_forms c.loop-k.kept c.loop-k-test.false), visits_end (prefix_visits 1 (reply a.at.now.asked.now.sheet.now.bytes.now)) (take a.at.now.end a.at.now.asked.now.word.now) c.loop-k.k c.loop-k.v c.loop-k-test.false c.loop-k.invariant.2)

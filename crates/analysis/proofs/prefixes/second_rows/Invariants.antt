@@ -20,6 +20,6 @@ each word sheet stem first chain surface second left = root_walk (reply sheet) s
 
 abbrev pub invariant-loop-k : goal.invariant-loop-k
 invariant-loop-k l = (l.k ≤ all_forms)
-    × (plus_all l.asked.word.now l.initial.kept (over_forms (each l.asked.word.now l.asked.sheet.now.bytes.now l.at.end l.first l.at.chain l.asked.surface) (between l.asked.word.now l.from l.at.end) 0 all_forms)
-    ≡ plus_all l.asked.word.now l.kept (over_forms (each l.asked.word.now l.asked.sheet.now.bytes.now l.at.end l.first l.at.chain l.asked.surface) (between l.asked.word.now l.from l.at.end) l.k (all_forms - l.k)))
-    × Counted (prefix_visits 0 (reply l.asked.sheet.now.bytes.now)) (between l.asked.word.now l.from l.at.end) l.k l.v
+    × (plus_all l.at.asked.now.word.now l.initial.kept (over_forms (each l.at.asked.now.word.now l.at.asked.now.sheet.now.bytes.now l.at.end l.first l.at.chain l.at.asked.now.surface) (between l.at.asked.now.word.now l.from l.at.end) 0 all_forms)
+    ≡ plus_all l.at.asked.now.word.now l.kept (over_forms (each l.at.asked.now.word.now l.at.asked.now.sheet.now.bytes.now l.at.end l.first l.at.chain l.at.asked.now.surface) (between l.at.asked.now.word.now l.from l.at.end) l.k (all_forms - l.k)))
+    × Counted (prefix_visits 0 (reply l.at.asked.now.sheet.now.bytes.now)) (between l.at.asked.now.word.now l.from l.at.end) l.k l.v

@@ -9,9 +9,9 @@ use Rattle.tables.specs.Tables.{affixes}
 use Rattle.analysis.proofs.suffixes.ends.Goals as goal
 
 pub slice_bounds-ends_with-end : goal.slice_bounds-ends_with-end
-slice_bounds-ends_with-end c = sym (length-take-le c.args.end c.args.word.now c.requires.0)
+slice_bounds-ends_with-end c = sym (length-take-le c.args.at.now.end c.args.at.now.asked.now.word.now c.args.at.now.inside)
 
 pub returns : goal.returns
 returns c =
     c.ends_with.ensures
-    ∙ ap (λ (t : List ℕ). ends_in t (take c.args.end c.args.word.now)) (c.affix.ensures ∙ ap (λ (k : ℕ). get_or affixes k []) c.from.ensures)
+    ∙ ap (λ (t : List ℕ). ends_in t (take c.args.at.now.end c.args.at.now.asked.now.word.now)) (c.affix.ensures ∙ ap (λ (k : ℕ). get_or affixes k []) c.from.ensures)

@@ -1,7 +1,7 @@
--- `analysis::suffixes::times_after` meets its contract, test by test. Assumes nothing.
+-- `analysis::stripped::times_after` meets its contract, test by test. Assumes nothing.
 use native.Mathlib.Omega.{arith}
 use borrow.Author.Tests.{lt-ltb, le-ltb}
-use Rattle.analysis.proofs.suffixes.times_after.Goals as goal
+use Rattle.analysis.proofs.stripped.times_after.Goals as goal
 
 pub returns-then-k-lt2 : goal.returns-then-k-lt2
 returns-then-k-lt2 c = (simp (lt-ltb _ _ c.if-k-lt2.true), omega arith)
