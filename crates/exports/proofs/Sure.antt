@@ -16,7 +16,7 @@ use Rattle.origin.specs.Marks.{heuristic_of}
 use Rattle.origin.specs.Decisions.{by_word, by_stem, no_evidence, known_by, known_stem, or_by_table, or_by_kosha, by_marks, decision_of}
 use Rattle.origin.specs.declared.OriginDecision.{OriginDecision}
 use Rattle.origin.specs.declared.kosha.Known.{Known}
-use Rattle.origin.specs.declared.kosha.Known.TheVariants.{Tagged, Headword, NotKnown}
+use Rattle.origin.specs.declared.kosha.Known.TheVariants.{Tagged, Headword}
 
 abbrev Sure : OriginDecision → Type 0
 Sure d = T (fits binary32 d.confidence)
@@ -29,10 +29,10 @@ by_table : (f : Option Origin) (d : OriginDecision) → Sure d → Sure (or_by_t
 by_table (Some o) d h = of_bits-fits binary32 0x3F800000
 by_table None d h = h
 
-by_kosha : (f : Float) (k : Known) (d : OriginDecision) → T (fits binary32 f) → Sure d → Sure (or_by_kosha f k d)
+by_kosha : (f : Float) (k : Option Known) (d : OriginDecision) → T (fits binary32 f) → Sure d → Sure (or_by_kosha f k d)
 by_kosha f (Tagged o) d s h = s
 by_kosha f Headword d s h = of_bits-fits binary32 0x00000000
-by_kosha f NotKnown d s h = h
+by_kosha f None d s h = h
 
 by-mark : (o : Origin) → Sure (by_marks o)
 by-mark Deshaj = of_bits-fits binary32 0x00000000

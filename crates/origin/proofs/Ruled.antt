@@ -22,9 +22,10 @@ use Rattle.strips.specs.Suffix.{sheds, plain, shared, remainders, first_length}
 use Rattle.sheet.specs.Replies.{Ask}
 use Rattle.origin.specs.Marks.{contains, some, contains_one, begins_one, aagantuk_marks, nukta, after_first, has_aagantuk_markers, tatsam_marks, has_tatsam_markers}
 use Rattle.origin.proofs.Marked.{contains_at}
-use Rattle.origin.specs.Decisions.{or_else, first_known, known_rest, known_under, known_stem}
+use Rattle.std.specs.Option.{option_or}
+use Rattle.std.specs.Prelude.{Option, None}
+use Rattle.origin.specs.Decisions.{first_known, known_rest, known_under, known_stem}
 use Rattle.origin.specs.declared.kosha.Known.{Known}
-use Rattle.origin.specs.declared.kosha.Known.TheVariants.{NotKnown}
 use Rattle.origin.specs.Quick.{last_bytes, ends_listed, may_list, opens_cluster, low_mark, high_mark, opens_mark, may_open, Opens, somewhere, may_mark, ends_strip, may_strip}
 
 -- A test of the tails, one by one.
@@ -197,19 +198,19 @@ none_left : (w t : List ℕ) → sheds w t ≡ false → remainders w t ≡ []
 unfolding remainders plain shared
 none_left w t e = rw e
 
-under_none : (ask : Ask) (w t : List ℕ) → remainders w t ≡ [] → known_under ask w t ≡ NotKnown
+under_none : (ask : Ask) (w t : List ℕ) → remainders w t ≡ [] → known_under ask w t ≡ None
 unfolding known_under
 under_none ask w t e = ap (first_known (known_rest ask)) e
 
-pub no-stem : (ask : Ask) (w : List ℕ) → may_strip w ≡ false → NotKnown ≡ known_stem ask w
+pub no-stem : (ask : Ask) (w : List ℕ) → may_strip w ≡ false → None ≡ known_stem ask w
 unfolding known_stem
 no-stem ask w e = sym (over strip_suffixes 0 endings)
   where
-    over : (ts : List (List ℕ)) (k : ℕ) → every is_ending k ts ≡ true → first_known (known_under ask w) ts ≡ NotKnown
+    over : (ts : List (List ℕ)) (k : ℕ) → every is_ending k ts ≡ true → first_known (known_under ask w) ts ≡ None
     over [] k h = refl
     over (t ∷ ts) k h =
         let i = and_left (is_ending k t) (every is_ending (suc k) ts) h in
-        ap (λ (x : Known). or_else x (first_known (known_under ask w) ts)) (under_none ask w t (none_left w t (no_ending w t i e)))
+        ap (λ (x : Option Known). option_or x (first_known (known_under ask w) ts)) (under_none ask w t (none_left w t (no_ending w t i e)))
         ∙ over ts (suc k) (and_right (is_ending k t) (every is_ending (suc k) ts) h)
 
 -- The table. Each of its words passes the test.

@@ -1,6 +1,7 @@
 -- Where a word comes from, how that is known, and how surely (document 01, "origin.rs"): the first rule that applies. It is said of
 -- replies, so that two sheets which reply alike are the same to it. Assumes nothing.
 use Rattle.std.specs.Prelude.{ℕ, List, [], ◌∷◌, length, eqb, ltb, Float, Option, Some, None}
+use Rattle.std.specs.Option.{option_or}
 use Rattle.std.specs.Float.{binary32}
 use Rattle.std.specs.Float.Ieee.{of_bits}
 use Rattle.runs.specs.Runs.{pick}
@@ -17,7 +18,7 @@ use Rattle.origin.specs.declared.OriginSource.{OriginSource}
 use Rattle.origin.specs.declared.OriginSource.TheVariants.{Override, Kosha, Heuristic, Unknown}
 use Rattle.origin.specs.declared.OriginDecision.{OriginDecision}
 use Rattle.origin.specs.declared.kosha.Known.{Known}
-use Rattle.origin.specs.declared.kosha.Known.TheVariants.{Tagged, Headword, NotKnown}
+use Rattle.origin.specs.declared.kosha.Known.TheVariants.{Tagged, Headword}
 
 -- Confidence, the nearest f32, by its bits: 0.0, 0.65, 0.90, 0.95 and 1.0.
 abbrev pub none : Float
@@ -42,38 +43,32 @@ decided o s f = record { origin = o; source = s; confidence = f }
 abbrev pub no_evidence : OriginDecision
 no_evidence = decided Deshaj Unknown none
 
--- What a sheet says of a name: its tag, that it is a headword without one, or neither.
-abbrev pub if_untagged : Known → Option Origin → Known
+-- What a sheet knows of a name: its tag, that it is a headword without one, or nothing.
+abbrev pub if_untagged : Option Known → Option Origin → Option Known
 if_untagged k None = k
-if_untagged k (Some origin) = Tagged origin
+if_untagged k (Some origin) = Some (Tagged origin)
 
-unfoldable pub known_in : Letters → Known
-known_in l = if_untagged (pick l.head Headword NotKnown) l.tag
+unfoldable pub known_in : Letters → Option Known
+known_in l = if_untagged (pick l.head (Some Headword) None) l.tag
 
-unfoldable pub known_by : Ask → List ℕ → Known
+unfoldable pub known_by : Ask → List ℕ → Option Known
 known_by ask name = known_in (letters_by ask name)
 
--- the first where it knows something, else the second
-abbrev pub or_else : Known → Known → Known
-or_else (Tagged o) k = Tagged o
-or_else Headword k = Headword
-or_else NotKnown k = k
-
 -- what is known of the first text of which something is
-abbrev pub first_known : (List ℕ → Known) → List (List ℕ) → Known
-first_known f [] = NotKnown
-first_known f (t ∷ ts) = or_else (f t) (first_known f ts)
+abbrev pub first_known : (List ℕ → Option Known) → List (List ℕ) → Option Known
+first_known f [] = None
+first_known f (t ∷ ts) = option_or (f t) (first_known f ts)
 
 -- a remainder of more than one character is asked for
-unfoldable pub known_rest : Ask → List ℕ → Known
-known_rest ask r = pick (ltb 1 (chars r)) (known_by ask r) NotKnown
+unfoldable pub known_rest : Ask → List ℕ → Option Known
+known_rest ask r = pick (ltb 1 (chars r)) (known_by ask r) None
 
 -- each remainder of w under the suffix
-unfoldable pub known_under : Ask → List ℕ → List ℕ → Known
+unfoldable pub known_under : Ask → List ℕ → List ℕ → Option Known
 known_under ask w suffix = first_known (known_rest ask) (remainders w suffix)
 
 -- under each of the 22 suffixes in order
-unfoldable pub known_stem : Ask → List ℕ → Known
+unfoldable pub known_stem : Ask → List ℕ → Option Known
 known_stem ask w = first_known (known_under ask w) strip_suffixes
 
 -- The rules, each with the decision of those that come after it.
@@ -81,10 +76,10 @@ abbrev pub or_by_table : Option Origin → OriginDecision → OriginDecision
 or_by_table (Some o) rest = decided o Override sure
 or_by_table None rest = rest
 
-abbrev pub or_by_kosha : Float → Known → OriginDecision → OriginDecision
-or_by_kosha f (Tagged o) rest = decided o Kosha f
-or_by_kosha f Headword rest = no_evidence
-or_by_kosha f NotKnown rest = rest
+abbrev pub or_by_kosha : Float → Option Known → OriginDecision → OriginDecision
+or_by_kosha f (Some (Tagged o)) rest = decided o Kosha f
+or_by_kosha f (Some Headword) rest = no_evidence
+or_by_kosha f None rest = rest
 
 abbrev pub by_marks : Origin → OriginDecision
 by_marks Deshaj = no_evidence

@@ -9,74 +9,60 @@ use strips::suffix::suffix_rests;
 use tables::origins::Origin;
 use tables::strip_suffix_rows;
 
-// What a sheet says of a name: its origin tag, that it is a headword without one, or neither.
+// What a sheet knows of a name: its origin tag, or that it is a headword without one.
 #[derive(Clone, Copy, Debug, PartialEq, Eq)]
 pub enum Known {
     Tagged(Origin),
     Headword,
-    NotKnown,
 }
 
-// What the sheet says of a name.
-pub(crate) fn known_by(sheet: &Lexicon<'_>, name: &[u8]) -> Known
+// What the sheet knows of a name, if it knows anything.
+pub(crate) fn known_by(sheet: &Lexicon<'_>, name: &[u8]) -> Option<Known>
     ensures { result ≡ known_by (replies sheet.now) name.now }
 {
     let letters = sheet.letters_of(name, b"");
     match letters.tag {
-        Some(origin) => Known::Tagged(origin),
-        None => {
-            if letters.head {
-                Known::Headword
-            } else {
-                Known::NotKnown
-            }
-        }
+        Some(origin) => Some(Known::Tagged(origin)),
+        None => letters.head.then_some(Known::Headword),
     }
 }
 
 // The same of a remainder, which is not asked for where it is one character or none.
 #[tactic(auto, unfolding(crate::specs::Decisions::known_rest))]
-fn known_rest(sheet: &Lexicon<'_>, rest: &[u8]) -> Known
+fn known_rest(sheet: &Lexicon<'_>, rest: &[u8]) -> Option<Known>
     ensures { result ≡ known_rest (replies sheet.now) rest.now }
 {
     if text::characters::count(rest) <= 1 {
-        return Known::NotKnown;
+        return None;
     }
     known_by(sheet, rest)
 }
 
 // The same of the word's remainders under a suffix: the plain one, and the shared one where nothing is known of the plain.
-fn known_under(sheet: &Lexicon<'_>, word: &[u8], suffix: &[u8]) -> Known
+fn known_under(sheet: &Lexicon<'_>, word: &[u8], suffix: &[u8]) -> Option<Known>
     ensures { result ≡ known_under (replies sheet.now) word.now suffix.now }
 {
     let rests = suffix_rests(word, suffix);
-    let Some(plain) = rests.plain else {
-        return Known::NotKnown;
-    };
-    let first = known_rest(sheet, &word[..plain]);
-    match first {
-        Known::Tagged(_) => first,
-        Known::Headword => first,
-        Known::NotKnown => match rests.shared {
-            Some(shared) => known_rest(sheet, &word[..shared]),
-            None => Known::NotKnown,
-        },
+    let plain = rests.plain?;
+    if let Some(known) = known_rest(sheet, &word[..plain]) {
+        return Some(known);
     }
+    let shared = rests.shared?;
+    known_rest(sheet, &word[..shared])
 }
 
 // What the sheet knows of a remainder of the word under one of STRIP_SUFFIXES, the first of which something is known, if the word can end
 // in one.
-pub(crate) fn known_stem(sheet: &Lexicon<'_>, word: &[u8]) -> Known
+pub(crate) fn known_stem(sheet: &Lexicon<'_>, word: &[u8]) -> Option<Known>
     ensures { result ≡ known_stem (replies sheet.now) word.now }
 {
     if !may_strip(word) {
-        return Known::NotKnown;
+        return None;
     }
     for suffix in strip_suffix_rows() {
-        match known_under(sheet, word, suffix.as_bytes()) {
-            Known::NotKnown => {}
-            known => return known,
+        if let Some(known) = known_under(sheet, word, suffix.as_bytes()) {
+            return Some(known);
         }
     }
-    Known::NotKnown
+    None
 }

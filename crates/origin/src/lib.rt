@@ -81,15 +81,14 @@ fn by_marks(word: &[u8]) -> OriginDecision
 fn by_stem(sheet: &Lexicon<'_>, word: &[u8]) -> OriginDecision
     ensures { result ≡ or_by_kosha by_stem (known_stem (replies sheet.now) word.now) (by_marks (heuristic_of word.now)) }
 {
-    let stem = kosha::known_stem(sheet, word);
-    match stem {
-        Known::Tagged(origin) => OriginDecision {
-            origin: origin,
+    match kosha::known_stem(sheet, word) {
+        Some(Known::Tagged(origin)) => OriginDecision {
+            origin,
             source: OriginSource::Kosha,
             confidence: 0.90,
         },
-        Known::Headword => no_evidence(),
-        Known::NotKnown => by_marks(word),
+        Some(Known::Headword) => no_evidence(),
+        None => by_marks(word),
     }
 }
 
@@ -109,14 +108,13 @@ pub fn decide_origin(word: &[u8], sheet: &Lexicon<'_>) -> OriginDecision
             confidence: 1.0,
         };
     }
-    let own = kosha::known_by(sheet, word);
-    match own {
-        Known::Tagged(origin) => OriginDecision {
-            origin: origin,
+    match kosha::known_by(sheet, word) {
+        Some(Known::Tagged(origin)) => OriginDecision {
+            origin,
             source: OriginSource::Kosha,
             confidence: 0.95,
         },
-        Known::Headword => no_evidence(),
-        Known::NotKnown => by_stem(sheet, word),
+        Some(Known::Headword) => no_evidence(),
+        None => by_stem(sheet, word),
     }
 }

@@ -13,21 +13,23 @@ use Rattle.text.specs.Names.{name_run}
 use Rattle.sheet.specs.Forms.{Entry, front, entry_of, is_form, is_name}
 use Rattle.sheet.specs.Lines.{line_at}
 use Rattle.sheet.specs.Steps.{head_with, name_end, value_end, name_read, step_at}
-use Rattle.sheet.specs.declared.line.LineFault.TheVariants.{NoForm}
-use Rattle.std.specs.Prelude.{Option, Some, None, Ok, Err}
-use Rattle.std.specs.Option.{ok_or}
-use Rattle.sheet.specs.declared.line.LineFault.{LineFault}
+use Rattle.std.specs.Prelude.{Option, Some, None}
 use Rattle.sheet.proofs.Fronts.{front_length, run_inside}
 use Rattle.sheet.proofs.Heads.{letter_is}
+use Rattle.sheet.proofs.Forms.{line-fits}
 
 module _ (s : List ℕ) (at : ℕ) where
-  pub at_end : length s ≤ at → Ok None ≡ step_at s at
+  pub at_no_form : is_form (drop at s) ≡ false → None ≡ step_at s at
   unfolding step_at
-  at_end h = rw (le-leb _ _ h)
+  at_no_form e = rw e
 
-  pub at_no_form : at < length s → is_form (drop at s) ≡ false → Err NoForm ≡ step_at s at
-  unfolding step_at
-  at_no_form h e = rw (lt-leb _ _ h, e)
+  -- at the end no form stands
+  pub at_end : length s ≤ at → None ≡ step_at s at
+  at_end h = by (is_form (drop at s)) refl
+    where
+      by : (b : Bool) → is_form (drop at s) ≡ b → None ≡ step_at s at
+      by true e = absurd (omega (arith, line-fits s at e))
+      by false e = at_no_form e
 
   -- the first name ends at e, and the value at f
   module _ (e f : ℕ) (pe : e ≡ at + 3 + name_run (drop (at + 3) s)) (pf : f ≡ e + 2 + name_run (drop (e + 2) s)) where
@@ -68,9 +70,9 @@ module _ (s : List ℕ) (at : ℕ) where
         let m = name_end_is in
         omega arith
 
-    pub at_form : (l : ℕ) → (line_at s at).letter ≡ l → at < length s → is_form (drop at s) ≡ true → Ok (Some (record { letter = l; name_end = e; value_end = f; next = record { at = f + 3 } })) ≡ step_at s at
+    pub at_form : (l : ℕ) → (line_at s at).letter ≡ l → is_form (drop at s) ≡ true → Some (record { letter = l; name_end = e; value_end = f; next = record { at = f + 3 } }) ≡ step_at s at
     unfolding step_at
-    at_form l p h q = rw (lt-leb _ _ h, q, sym value_end_is, sym name_end_is, sym p)
+    at_form l p q = rw (q, sym value_end_is, sym name_end_is, sym p)
 
   pub name_good : is_name (front (drop (at + 3) s)) ≡ is_name (line_at s at).name
   unfolding entry_of
@@ -92,15 +94,6 @@ ending s at h r q = subst (Ending s at) (sym q) (by (is_name (front (drop at s))
     by : (b : Bool) → is_name (front (drop at s)) ≡ b → Ending s at (pick b (Some (at + name_run (drop at s))) None)
     by true e = (refl, (let n = run_inside (drop at s) in omega (arith, length-drop at s)), e)
     by false e = e
-
--- what `?` hands on of an option that is a fault where it is none
-pub handed : {A : Type 0} (o : Option A) (x : A) → ok_or o NoForm ≡ Ok x → o ≡ Some x
-handed (Some y) x e = cc
-handed None x e = let z : ◌≡◌ {A = ℕ} 0 1 = cc in absurd (omega arith)
-
-pub unhanded : {A : Type 0} (o : Option A) (fault : LineFault) → ok_or o NoForm ≡ Err fault → (o ≡ None) × (fault ≡ NoForm)
-unhanded (Some y) fault e = let z : ◌≡◌ {A = ℕ} 0 1 = cc in absurd (omega arith)
-unhanded None fault e = (refl, cc)
 
 -- an entry is its parts
 pub same_entry : (e : Entry) (l : ℕ) (n v : List ℕ) → e.letter ≡ l → e.name ≡ n → e.value ≡ v → e ≡ record { letter = l; name = n; value = v }

@@ -17,8 +17,8 @@ use Rattle.sheet.specs.declared.line.Cursor.{Cursor}
 use Rattle.sheet.specs.Walks.{key_before, Standing, starts_ahead, form_reached, reached}
 use Rattle.sheet.specs.declared.walk.Walk.{Walk}
 use Rattle.sheet.specs.declared.line.Form.{Form}
-use Rattle.sheet.specs.declared.line.LineFault.{LineFault}
-use Rattle.sheet.specs.declared.line.LineFault.TheVariants.{NoForm, NotAbove}
+use Rattle.sheet.specs.declared.walk.LineFault.{LineFault}
+use Rattle.sheet.specs.declared.walk.LineFault.TheVariants.{NoForm, NotAbove}
 use Rattle.sheet.specs.declared.check.SheetFault.{SheetFault}
 use Rattle.sheet.specs.declared.check.SheetFault.TheVariants.{TooLong, NotAbove as NotAboveAt, NoForm as NoFormAt}
 use Rattle.sheet.proofs.Forms.{line-fits, line_long, name-text}
@@ -124,11 +124,6 @@ module _ (s : List ℕ) (w : Walk) where
       → Ok (Some (form_reached s w)) ≡ reached s w
   unfolding reached
   reached-form h e f = rw (lt-leb _ _ h, e, f)
-
-  -- what the reader refuses the walk refuses
-  pub reached_fault : (fault : LineFault) → Err fault ≡ step_at s w.at → Err fault ≡ reached s w
-  reached_fault NoForm e = let t = step_told s w.at (Err NoForm) e in reached-no-form t.0 t.1
-  reached_fault NotAbove e = absurd (step_told s w.at (Err NotAbove) e)
 
   -- a form that the reader gave, with the walk from behind it
   abbrev pub going_on : Form Cursor → Form Walk

@@ -69,42 +69,35 @@ pub struct Form<P> {
     pub next: P,
 }
 
-// Why a line is refused: no form, or a form not above the one before.
-#[derive(Clone, Copy, Debug, PartialEq, Eq)]
-pub enum LineFault {
-    NoForm,
-    NotAbove,
-}
-
 impl Cursor {
-    // The form that begins at the cursor, none at the sheet's end; or that the line is no form.
-    pub fn step(self, s: &[u8]) -> Result<Option<Form<Cursor>>, LineFault>
+    // The form that begins at the cursor, none where no form stands there, as at the sheet's end.
+    pub fn step(self, s: &[u8]) -> Option<Form<Cursor>>
         ensures { result ≡ step_at s.now self.at }
     {
         let at = self.at;
         if s.len() <= at {
-            return Ok(None);
+            return None;
         }
-        let letter = head_at(&s[at..]).ok_or(LineFault::NoForm)?;
+        let letter = head_at(&s[at..])?;
         let from = at + 3;
-        let name_end = read_name(s, from).ok_or(LineFault::NoForm)?;
+        let name_end = read_name(s, from)?;
         if !begins_with(&s[name_end..], b" (") {
-            return Err(LineFault::NoForm);
+            return None;
         }
         let value_from = name_end + 2;
         let value_end = run_end(s, value_from);
         if !begins_with(&s[value_end..], b"))\n") {
-            return Err(LineFault::NoForm);
+            return None;
         }
         if !is_meant(letter, &s[from..name_end], &s[value_from..value_end]) {
-            return Err(LineFault::NoForm);
+            return None;
         }
         let end = value_end + 3;
-        Ok(Some(Form {
+        Some(Form {
             letter,
             name_end,
             value_end,
             next: Cursor { at: end },
-        }))
+        })
     }
 }

@@ -75,14 +75,9 @@ pub(crate) fn look(s: &[u8]) -> Option<Seen>
     ensures bound { IfSome result (λ c. (0 < c.size) × (c.size ≤ length s.now)) }
 {
     match *s {
-        [0xE0, 0xA4, 0x80..=0xBF, ..] => Some(Seen {
+        [0xE0, b @ 0xA4..=0xA5, c @ 0x80..=0xBF, ..] => Some(Seen {
             size: 3,
-            parting: false,
-            deva: true,
-        }),
-        [0xE0, 0xA5, c @ 0x80..=0xBF, ..] => Some(Seen {
-            size: 3,
-            parting: c == 0xA4,
+            parting: b == 0xA5 && c == 0xA4,
             deva: true,
         }),
         [a @ 0x00..=0x7F, ..] => Some(Seen {

@@ -1,5 +1,5 @@
 -- `entries::classify_with_provenance_in` meets its contract: the refusal of the word, or the decision by the accepted sheet. Assumes nothing.
-use mathlib.Core.Path.{◌≡◌, sym, ap, ◌∙◌}
+use mathlib.Core.Path.{◌≡◌, sym}
 use Rattle.std.specs.Prelude.{Result}
 use Rattle.refusals.specs.declared.Refusal.{Refusal}
 use Rattle.sheet.proofs.Refusals.{word-handed, accepted-both}

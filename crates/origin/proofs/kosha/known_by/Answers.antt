@@ -1,13 +1,13 @@
 -- `kosha::known_by` meets its contract: the tag, or whether the name is a headword. Assumes nothing.
 use Rattle.std.specs.Prelude.{None}
-use Rattle.origin.proofs.Stems.{told, tagged}
+use mathlib.Core.Path.{refl, ◌∙◌}
+use Rattle.origin.proofs.Stems.{told, tagged, headed}
 use Rattle.origin.proofs.kosha.known_by.Goals as goal
 
 pub returns-in-Some : goal.returns-in-Some
 returns-in-Some c = tagged c.args.sheet.now.bytes.now c.args.name.now _ _ c.letters_of-letters.ensures c.in-Some.is
 
-pub returns-then-letters : goal.returns-then-letters
-returns-then-letters c = told c.args.sheet.now.bytes.now c.args.name.now _ None _ c.letters_of-letters.ensures c.in-None.is c.if-letters.true
-
-pub returns-else-letters : goal.returns-else-letters
-returns-else-letters c = told c.args.sheet.now.bytes.now c.args.name.now _ None _ c.letters_of-letters.ensures c.in-None.is c.if-letters.false
+pub returns-in-None : goal.returns-in-None
+returns-in-None c =
+    let l = c.letters_of-letters.result in
+    c.then_some.ensures ∙ headed l.head ∙ told c.args.sheet.now.bytes.now c.args.name.now l None l.head c.letters_of-letters.ensures c.in-None.is refl

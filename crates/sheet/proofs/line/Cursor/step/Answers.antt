@@ -1,6 +1,5 @@
 -- `sheet::line::Cursor::step` meets its contract: at each refusal a part of the form is missing, and at the end none is. Assumes nothing.
 use Rattle.std.specs.Prelude.{Some, None}
-use Rattle.std.proofs.lemmas.Result.{err_from_is_err_and}
 use Prim.Native.Nat.{ℕ, ◌+◌, ◌-◌, ◌≤◌}
 use native.Mathlib.Omega.{arith}
 use mathlib.Core.Path.{◌≡◌, refl, sym, ap, subst, ◌∙◌}
@@ -14,7 +13,7 @@ use Rattle.sheet.specs.Steps.{head_with, head_of}
 use Rattle.sheet.proofs.Fronts.{front-plain}
 use Rattle.sheet.proofs.Shape.{begins-room, between, closing, rest_all, shaped, formed, unnamed, unmeant, not-between, not_closed}
 use Rattle.sheet.proofs.Heads.{headed, letter_is, headless}
-use Rattle.sheet.proofs.Stepped.{at_end, at_no_form, at_form, letter_at, name_good, name_is, value_is, to_name_end, to_value_end, Ending, ending, handed, unhanded, same_entry}
+use Rattle.sheet.proofs.Stepped.{at_end, at_no_form, at_form, letter_at, name_good, name_is, value_is, to_name_end, to_value_end, Ending, ending, same_entry}
 use Rattle.sheet.proofs.line.Cursor.step.Goals as goal
 use Rattle.sheet.proofs.line.Cursor.step.Goals.{After-begins_with, After-begins_with-2, After-head_at, After-is_meant, In_ok-letter, In_ok-name_end}
 
@@ -27,12 +26,11 @@ letter-of c = ap head_of (sym (rest_all c.args.s.now c.args.self.at)) ∙ sym c.
 
 pub returns-in_err-letter : goal.returns-in_err-letter
 returns-in_err-letter c =
-    let p = err_from_is_err_and c.from_residual.result c.from_residual.ensures.1 in
-    let n = unhanded c.head_at.result _ (sym c.ok_or.ensures.value ∙ c.in_err-letter.was) in
-    rw (p.1, p.2, n.1) (at_no_form c.args.s.now c.args.self.at c.if-s-at.false (headless _ (letter-of (goal.at.returns-in_err-letter c).After-head_at ∙ n.0)))
+    c.from_residual.ensures
+    ∙ at_no_form c.args.s.now c.args.self.at (headless _ (letter-of (goal.at.returns-in_err-letter c).After-head_at ∙ c.in_err-letter.was))
 
 head-of : (c : In_ok-letter) → begins_with (head_with c.in_ok-letter.letter) (drop c.args.self.at c.args.s.now) ≡ true
-head-of c = headed _ _ (ap head_of (sym (rest_all c.args.s.now c.args.self.at)) ∙ sym c.head_at.ensures ∙ handed c.head_at.result _ (sym c.ok_or.ensures.value ∙ c.in_ok-letter.was))
+head-of c = headed _ _ (ap head_of (sym (rest_all c.args.s.now c.args.self.at)) ∙ sym c.head_at.ensures ∙ c.in_ok-letter.was)
 
 pub read_name-requires : goal.read_name-requires
 read_name-requires c =
@@ -42,18 +40,16 @@ pub returns-in_err-name_end : goal.returns-in_err-name_end
 returns-in_err-name_end c =
     let s = c.args.s.now in
     let r = begins-room (head_with c.in_ok-letter.letter) s c.args.self.at (omega arith) (head-of (goal.at.returns-in_err-name_end c).In_ok-letter) in
-    let p = err_from_is_err_and c.from_residual-in_err-name_end.result c.from_residual-in_err-name_end.ensures.1 in
-    let n = unhanded c.read_name.result _ (sym c.ok_or-2.ensures.value ∙ c.in_err-name_end.was) in
-    rw (p.1, p.2, n.1) (at_no_form s c.args.self.at c.if-s-at.false
-    (unnamed _ (sym (name_good s c.args.self.at) ∙ ending s (c.args.self.at + 3) r None (sym n.0 ∙ c.read_name.ensures))))
+    c.from_residual-in_err-name_end.ensures
+    ∙ at_no_form s c.args.self.at
+    (unnamed _ (sym (name_good s c.args.self.at) ∙ ending s (c.args.self.at + 3) r None (sym c.in_err-name_end.was ∙ c.read_name.ensures)))
 
 -- what is known of the name's end
 named : (c : In_ok-name_end) → begins_with (head_with c.in_ok-letter.letter) (drop c.args.self.at c.args.s.now) ≡ true → Ending c.args.s.now (c.args.self.at + 3) (Some c.in_ok-name_end.name_end)
 named c h =
     let s = c.args.s.now in
     let r = begins-room (head_with c.in_ok-letter.letter) s c.args.self.at (omega arith) h in
-    let n = handed c.read_name.result _ (sym c.ok_or-2.ensures.value ∙ c.in_ok-name_end.was) in
-    ending s (c.args.self.at + 3) r (Some c.in_ok-name_end.name_end) (sym n ∙ c.read_name.ensures)
+    ending s (c.args.self.at + 3) r (Some c.in_ok-name_end.name_end) (sym c.in_ok-name_end.was ∙ c.read_name.ensures)
 
 pub slice_bounds-begins_with-count : goal.slice_bounds-begins_with-count
 slice_bounds-begins_with-count c =
@@ -74,7 +70,7 @@ pub returns-then-not-begins_with : goal.returns-then-not-begins_with
 returns-then-not-begins_with c =
     let e = c.in_ok-name_end.name_end in
     let n = named (goal.at.returns-then-not-begins_with c).In_ok-name_end (head-of (goal.at.returns-then-not-begins_with c).In_ok-letter) in
-    at_no_form c.args.s.now c.args.self.at c.if-s-at.false
+    at_no_form c.args.s.now c.args.self.at
     (not-between _ (ap (begins_with between) (to_name_end c.args.s.now c.args.self.at e (e + 2 + name_run (drop (e + 2) c.args.s.now)) n.0 refl) ∙ between_at (goal.at.returns-then-not-begins_with c).After-begins_with ∙ c.if-not-begins_with.true))
 
 pub run_end-value_end-requires : goal.run_end-value_end-requires
@@ -88,7 +84,7 @@ closed_at c = ap (begins_with closing) (sym (rest_all c.args.s.now c.run_end-val
 pub returns-then-not-begins_with-2 : goal.returns-then-not-begins_with-2
 returns-then-not-begins_with-2 c =
     let n = named (goal.at.returns-then-not-begins_with-2 c).In_ok-name_end (head-of (goal.at.returns-then-not-begins_with-2 c).In_ok-letter) in
-    at_no_form c.args.s.now c.args.self.at c.if-s-at.false (not_closed _ (ap (begins_with closing) (to_value_end c.args.s.now c.args.self.at c.in_ok-name_end.name_end c.run_end-value_end.result n.0 c.run_end-value_end.ensures.0) ∙ closed_at (goal.at.returns-then-not-begins_with-2 c).After-begins_with-2 ∙ c.if-not-begins_with-2.true))
+    at_no_form c.args.s.now c.args.self.at (not_closed _ (ap (begins_with closing) (to_value_end c.args.s.now c.args.self.at c.in_ok-name_end.name_end c.run_end-value_end.result n.0 c.run_end-value_end.ensures.0) ∙ closed_at (goal.at.returns-then-not-begins_with-2 c).After-begins_with-2 ∙ c.if-not-begins_with-2.true))
 
 pub slice_bounds-is_meant-count : goal.slice_bounds-is_meant-count
 slice_bounds-is_meant-count c =
@@ -122,7 +118,7 @@ pub returns-then-not-is_meant : goal.returns-then-not-is_meant
 returns-then-not-is_meant c =
     let h = head-of (goal.at.returns-then-not-is_meant c).In_ok-letter in
     let n = named (goal.at.returns-then-not-is_meant c).In_ok-name_end h in
-    at_no_form c.args.s.now c.args.self.at c.if-s-at.false (unmeant _ (meaning_at (goal.at.returns-then-not-is_meant c).After-is_meant h n.0 ∙ c.if-not-is_meant.true))
+    at_no_form c.args.s.now c.args.self.at (unmeant _ (meaning_at (goal.at.returns-then-not-is_meant c).After-is_meant h n.0 ∙ c.if-not-is_meant.true))
 
 pub overflow_add-end : goal.overflow_add-end
 overflow_add-end c =
@@ -142,4 +138,4 @@ returns c =
     let m = ap (begins_with between) (to_name_end c.args.s.now c.args.self.at e f pe pf) ∙ between_at (goal.at.returns c).After-begins_with ∙ c.if-not-begins_with.false in
     let k = ap (begins_with closing) (to_value_end c.args.s.now c.args.self.at e f pe pf) ∙ closed_at (goal.at.returns c).After-begins_with-2 ∙ c.if-not-begins_with-2.false in
     let g = sym (name_good c.args.s.now c.args.self.at) ∙ n.2 in
-    at_form c.args.s.now c.args.self.at e f pe pf _ (letter_at c.args.s.now c.args.self.at _ b) c.if-s-at.false (formed t (shaped t h m k) g (meaning_at (goal.at.returns c).After-is_meant b pe ∙ c.if-not-is_meant.false))
+    at_form c.args.s.now c.args.self.at e f pe pf _ (letter_at c.args.s.now c.args.self.at _ b) (formed t (shaped t h m k) g (meaning_at (goal.at.returns c).After-is_meant b pe ∙ c.if-not-is_meant.false))
