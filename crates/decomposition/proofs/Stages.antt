@@ -1,14 +1,13 @@
--- Laws of the way through the suffix rows: labels in an array, one row more, all rows. The proofs of `strip_row`, `strip_rows` and
+-- Laws of the way through the suffix rows: one row more, all rows. The proofs of `strip_row`, `strip_rows` and
 -- `decomposed` cite these. Assumes nothing.
 use Rattle.std.specs.Prelude.{None, Some}
-use mathlib.Core.Path.{◌≡◌, refl, sym, ap, ◌∙◌}
+use mathlib.Core.Path.{◌≡◌, sym, ap, ◌∙◌}
 use mathlib.Core.List.{List, [], ◌∷◌, ◌++◌}
-use Prim.Native.Nat.{ℕ, zero, suc, ◌+◌, ◌-◌, ◌<◌, ◌≤◌}
-use native.Mathlib.Nat.{not-suc-le-zero, le_of_suc-le-suc}
+use Prim.Native.Nat.{ℕ, ◌+◌, ◌-◌, ◌<◌, ◌≤◌}
 use native.Mathlib.Numerals.{add-one}
 use native.Mathlib.Omega.{arith}
 use lib.ListN.{length, take, drop, get_or, drop_of_length-le, length-append}
-use lib.Seq.{drop-cons, take-take, take_all, length-take-le}
+use lib.Seq.{drop-cons, take-take, length-take-le}
 use Rattle.sheet.specs.Replies.{Ask}
 use Rattle.decomposition.specs.declared.suffixes.Stripped.{Stripped}
 use Rattle.tables.specs.Rows.{prefix_forms, suffixes}
@@ -16,21 +15,8 @@ use Rattle.decomposition.specs.declared.fronts.Front.{Front}
 use Rattle.decomposition.specs.declared.Parts.{Parts}
 use Rattle.decomposition.proofs.Leading.{lent_rest}
 use Rattle.decomposition.specs.Strips.{least_root, first_front, Stage, label_row, left_of, first_taken, taken, strip_row, strip_rows}
-use Rattle.decomposition.specs.Parts.{filled, whole_stage, parts_at, of_stage, behind_front, decomposed_of}
+use Rattle.decomposition.specs.Parts.{whole_stage, parts_at, of_stage, behind_front, decomposed_of}
 use Rattle.decomposition.specs.Places.{stage_of, Held, FirstLeft, stripped_of}
-
--- Labels in an array whose unused places are 0.
-
-pub filled-length : (n : ℕ) (xs : List ℕ) → length (filled n xs) ≡ n
-filled-length zero xs = refl
-filled-length (suc n) [] = ap suc (filled-length n [])
-filled-length (suc n) (x ∷ xs) = ap suc (filled-length n xs)
-
-pub filled-front : (n : ℕ) (xs : List ℕ) → length xs ≤ n → take (length xs) (filled n xs) ≡ xs
-filled-front zero [] h = refl
-filled-front (suc n) [] h = refl
-filled-front zero (x ∷ xs) h = absurd (not-suc-le-zero h)
-filled-front (suc n) (x ∷ xs) h = ap (λ (l : List ℕ). x ∷ l) (filled-front n xs (le_of_suc-le-suc h))
 
 -- One row more.
 
@@ -79,14 +65,6 @@ ended whole s n held = same_stripped (sym (length-take-le s.len whole held.insid
   where
     same_stripped : {a b : ℕ} → a ≡ b → ◌≡◌ {A = Stripped} (record { len = a; labels = s.labels }) (record { len = b; labels = s.labels })
     same_stripped p = cc
-
--- what it begins with
-pub begun : (piece : List ℕ) (s : Stripped) → s.len ≡ length piece → s.labels.items ≡ []
-    → (stage_of piece s ≡ whole_stage piece) × Held piece 0 s
-begun piece s p q =
-    let e : take s.len piece ≡ piece = take_all s.len piece (omega arith) in
-    let n : length s.labels.items ≡ 0 = ap (length {A = ℕ}) q in
-    (cc, record { inside = omega arith; few = omega arith })
 
 -- the parts that the code makes of a front and of what is left behind it
 pub decomposed_is : (ask : Ask) (w : List ℕ) (f : Front) (least : ℕ) (s : Stripped) (p : Parts) → f ≡ first_front ask w 0 prefix_forms → least ≡ least_root f.prefix

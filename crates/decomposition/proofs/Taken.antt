@@ -5,12 +5,10 @@ use Rattle.std.specs.Option.{is_some}
 use mathlib.Core.Path.{◌≡◌, refl, sym, ap, ◌∙◌}
 use mathlib.Core.Bool.{Bool, true, false, ◌&&◌}
 use mathlib.Core.List.{List, [], ◌∷◌, ◌++◌, append-nil}
-use Prim.Native.Nat.{ℕ, ◌<◌, ◌≤◌}
+use Prim.Native.Nat.{ℕ, ◌≤◌}
 use native.Mathlib.Omega.{arith}
 use lib.ListN.{length, take}
-use borrow.Author.Tests.{le-leb, lt-leb}
 use Rattle.runs.specs.Runs.{pick}
-use Rattle.text.specs.Characters.{chars}
 use Rattle.sheet.specs.Replies.{Ask, reply, letters_told, letters_for, letters_by}
 use Rattle.sheet.specs.declared.letters.Letters.{Letters}
 use Rattle.strips.specs.Suffix.{sheds, is_long, plain_length, shared_length, remainders, rests_of, fronts, keeps_pronoun}
@@ -100,17 +98,6 @@ pub kept : (s piece suffix : List ℕ) (l : Letters) (b : Bool) → l ≡ letter
     → b ≡ is_kept (reply s) piece suffix
 unfolding is_kept
 kept s piece suffix l b e k = k ∙ ap (λ (x : Letters). keeps_pronoun x.pronoun x.spelled suffix) (own_letters s piece l e)
-
--- Whether a remainder is taken.
-
-module _ (ask : Ask) (least : ℕ) (r : List ℕ) where
-  pub taken-short : chars r < least → false ≡ is_taken ask least r
-  unfolding is_taken
-  taken-short h = rw (lt-leb least (chars r) h)
-
-  pub taken_word : least ≤ chars r → is_word ask r ≡ is_taken ask least r
-  unfolding is_taken
-  taken_word h = rw (le-leb least (chars r) h)
 
 -- The first one taken, by the lengths that the code has of them.
 

@@ -1,12 +1,8 @@
 -- How the code says a piece on its way through the suffix rows: by places in the piece and a list of labels. Assumes nothing.
-use Rattle.std.specs.Prelude.{ℕ, ◌≤◌, ◌≡◌, List, [], ◌∷◌, length, take, None, Option, Some}
+use Rattle.std.specs.Prelude.{ℕ, ◌≤◌, ◌≡◌, List, length, take, Option, IfSome}
+use Rattle.strips.specs.Suffix.{front}
 use Rattle.decomposition.specs.declared.suffixes.Stripped.{Stripped}
 use Rattle.decomposition.specs.Strips.{Stage}
-
--- a remainder as the code says it, by its length
-abbrev pub left_front : List ℕ → Option ℕ → List (List ℕ)
-left_front piece None = []
-left_front piece (Some n) = take n piece ∷ []
 
 -- the stage at which the code stands, on the way through a piece
 abbrev pub stage_of : List ℕ → Stripped → Stage
@@ -18,13 +14,9 @@ pub record Held (whole : List ℕ) (n : ℕ) (s : Stripped) : Type 0 where
   pub few : length s.labels.items ≤ n
 
 -- the code's answer says the remainder taken, which lies inside the piece
-abbrev pub left_within : List ℕ → Option ℕ → Type 0
-left_within piece None = Unit {0}
-left_within piece (Some n) = n ≤ length piece
-
 pub record FirstLeft (piece : List ℕ) (l : Option ℕ) (rests : List (List ℕ)) : Type 0 where
-  pub says : left_front piece l ≡ rests
-  pub within : left_within piece l
+  pub says : front piece l ≡ rests
+  pub within : IfSome l (λ n. n ≤ length piece)
 
 -- a stage as the code says it
 abbrev pub stripped_of : Stage → Stripped

@@ -12,6 +12,8 @@ use lib.Seq.{take_at, drop_at, drop-drop}
 use borrow.Rule.Slice.PartMut.{put_mid}
 use borrow.Author.Tests.{lt-ltb, le-ltb}
 use Rattle.sheet.specs.Inputs.{inputs_of}
+use Rattle.std.specs.Option.{unwrap_or}
+use Rattle.decomposition.specs.Parts.{prefixes_of}
 use Rattle.decomposition.specs.Answers.{morpheme_if, morpheme_answer}
 use Rattle.decomposition.specs.declared.Morpheme.{Morpheme}
 use Rattle.decomposition.specs.declared.Parts.{Parts}
@@ -101,8 +103,8 @@ cells_full n xs e = ap (λ (k : ℕ). cells k 0 xs) (sym e) ∙ cells_all xs
 
 -- parts, and the 24 places for suffix rows behind them
 pub parts-stored : (p : Parts) (a b c d : ℕ) (old now part : List ℕ) → length p.suffixes ≡ 24
-    → now ≡ (p.start ∷ p.end ∷ p.prefix ∷ p.prefix_count ∷ p.suffix_count ∷ a ∷ b ∷ c ∷ d ∷ []) ++ drop 9 old → part ≡ p.suffixes
+    → now ≡ (p.start ∷ p.end ∷ unwrap_or p.prefix 0 ∷ length (prefixes_of p.prefix) ∷ p.suffix_count ∷ a ∷ b ∷ c ∷ d ∷ []) ++ drop 9 old → part ≡ p.suffixes
     → put_mid 9 24 now part ≡ parts_bytes p a b c d ++ drop 33 old
 parts-stored p a b c d old now part l e f =
-    let front = p.start ∷ p.end ∷ p.prefix ∷ p.prefix_count ∷ p.suffix_count ∷ a ∷ b ∷ c ∷ d ∷ [] in
+    let front = p.start ∷ p.end ∷ unwrap_or p.prefix 0 ∷ length (prefixes_of p.prefix) ∷ p.suffix_count ∷ a ∷ b ∷ c ∷ d ∷ [] in
     stored_behind 9 24 front p.suffixes old now part e refl f ∙ ap (λ (xs : List ℕ). (front ++ xs) ++ drop 33 old) (sym (cells_full 24 p.suffixes l))

@@ -38,7 +38,8 @@ use Rattle.analysis.specs.Answers.{said_of, rows_given}
 use Rattle.origin.specs.declared.OriginSource.{OriginSource}
 use Rattle.origin.specs.declared.OriginSource.TheVariants.{Override, Kosha, Heuristic, Unknown}
 use Rattle.origin.specs.declared.OriginDecision.{OriginDecision}
-use Rattle.decomposition.specs.Parts.{morpheme_of}
+use Rattle.decomposition.specs.Parts.{prefixes_of, morpheme_of}
+use Rattle.std.specs.Option.{unwrap_or}
 use Rattle.decomposition.specs.Answers.{morpheme_if, morpheme_answer}
 use Rattle.decomposition.specs.declared.Parts.{Parts}
 use Rattle.decomposition.specs.declared.Morpheme.{Morpheme}
@@ -46,7 +47,7 @@ use Rattle.roots.specs.Lists.{no_candidate}
 use Rattle.roots.specs.Answers.{roots_for}
 use Rattle.roots.specs.declared.RootCandidate.{RootCandidate}
 use Rattle.exports.specs.Codes.{coded, answered, bit, word_code, sheet_code, refusal_code, form_value, progressive_code, origin_number, source_number, origin_code}
-use Rattle.exports.specs.Read.{number_of, value_of, found_of, negative_of, main_end_of, lemma_len_of, lemma_at_of, origin_of, source_of, origin_at, source_at, row_at, has_bit, parts_at, candidate_at, decomposition_at}
+use Rattle.exports.specs.Read.{number_of, value_of, found_of, negative_of, main_end_of, lemma_len_of, lemma_at_of, origin_of, source_of, origin_at, source_at, row_at, has_bit, prefix_at, parts_at, candidate_at, decomposition_at}
 use Rattle.exports.specs.Rows.{four_bytes, row_bytes, row_width, each, rows_filled, readings_if, readings_filled}
 use Rattle.exports.specs.Filled.{parts_bytes, morpheme_bytes, candidate_bytes, decompose_if, decompose_filled, candidates_if, candidates_filled}
 use Rattle.exports.proofs.Bounds.{SmallForm, answer_small}
@@ -257,18 +258,21 @@ cells_long (suc n) i xs = ap suc (cells_long n (suc i) xs)
 cells-back : (xs rest : List ℕ) → length xs ≡ 24 → take 24 (cells 24 0 xs ++ rest) ≡ xs
 cells-back xs rest e = take_at (cells 24 0 xs) rest 24 (cells_long 24 0 xs) ∙ cells_full 24 xs e
 
-parts_is : (p : Parts) {xs : List ℕ} → xs ≡ p.suffixes → record {
+parts_is : (p : Parts) {o : Option ℕ} {xs : List ℕ} → o ≡ p.prefix → xs ≡ p.suffixes → record {
   start = p.start;
   end = p.end;
-  prefix = p.prefix;
-  prefix_count = p.prefix_count;
+  prefix = o;
   suffix_count = p.suffix_count;
   suffixes = xs;
 } ≡ p
-parts_is p e = rw e
+parts_is p e f = rw (e, f)
+
+prefix_back : (o : Option ℕ) → prefix_at (unwrap_or o 0) (length (prefixes_of o)) ≡ o
+prefix_back None = refl
+prefix_back (Some row) = refl
 
 parts-back : (p : Parts) (a b c d : ℕ) (rest : List ℕ) → Full p → parts_at (parts_bytes p a b c d ++ rest) ≡ p
-parts-back p a b c d rest h = parts_is p (cells-back p.suffixes rest h)
+parts-back p a b c d rest h = parts_is p (prefix_back p.prefix) (cells-back p.suffixes rest h)
 
 candidate_is : (c : RootCandidate) {n : ℕ} {p : Parts} {o : Origin} {a b : Bool} → n ≡ c.score → p ≡ c.parts → o ≡ c.origin → a ≡ c.known_word
     → b ≡ c.known_headword → record { score = n; parts = p; origin = o; known_word = a; known_headword = b } ≡ c

@@ -2,11 +2,13 @@
 -- refusal, 8 for a buffer that is too short, or an answer's value. Assumes nothing.
 use Rattle.refusals.specs.declared.Refusal.{Refusal}
 use Rattle.std.specs.Prelude.{ℕ, ◌+◌, ◌*◌, ◌/◌, ◌%◌, List, ◌∷◌, ◌++◌, length, drop, ltb, Err, Ok, Result}
+use Rattle.std.specs.Option.{unwrap_or}
 use Rattle.runs.specs.Runs.{pick}
 use Rattle.refusals.specs.declared.Refusal.TheVariants.{OutputTooShort}
 use Rattle.sheet.specs.Inputs.{inputs_of}
 use Rattle.decomposition.specs.declared.Parts.{Parts}
 use Rattle.decomposition.specs.declared.Morpheme.{Morpheme}
+use Rattle.decomposition.specs.Parts.{prefixes_of}
 use Rattle.decomposition.specs.Answers.{morpheme_answer}
 use Rattle.roots.specs.declared.RootCandidate.{RootCandidate}
 use Rattle.roots.specs.Answers.{roots_for}
@@ -14,9 +16,11 @@ use Rattle.exports.specs.Codes.{bit, refusal_code, origin_number}
 use Rattle.ranking.specs.Stored.{cells}
 use Rattle.exports.specs.Rows.{Filled, rows_filled}
 
--- 33 bytes: places of the root, prefix row and count, suffix count, four bytes more, then the 24 places for suffix rows
+-- 33 bytes: places of the root, prefix row and count, both 0 where there is none, suffix count, four bytes more, then the 24 places
+-- for suffix rows
 abbrev pub parts_bytes : Parts → ℕ → ℕ → ℕ → ℕ → List ℕ
-parts_bytes p a b c d = p.start ∷ p.end ∷ p.prefix ∷ p.prefix_count ∷ p.suffix_count ∷ a ∷ b ∷ c ∷ d ∷ cells 24 0 p.suffixes
+parts_bytes p a b c d =
+    p.start ∷ p.end ∷ unwrap_or p.prefix 0 ∷ length (prefixes_of p.prefix) ∷ p.suffix_count ∷ a ∷ b ∷ c ∷ d ∷ cells 24 0 p.suffixes
 
 abbrev pub filled_bytes : ℕ
 filled_bytes = 33

@@ -1,7 +1,8 @@
 -- How a caller reads what the static library's functions give, as the C header does: shifts and masks of a code are quotients and
 -- remainders by powers of 2, and a row of bytes is a reading with its root's origin (its first 22 bytes: `ranking/specs/Stored.reading_at`), a candidate or a
 -- decomposition. Assumes nothing.
-use Rattle.std.specs.Prelude.{ℕ, ◌+◌, ◌*◌, ◌/◌, ◌%◌, Bool, List, [], ◌∷◌, take, drop, get_or, ltb}
+use Rattle.std.specs.Prelude.{ℕ, ◌+◌, ◌*◌, ◌/◌, ◌%◌, Bool, List, [], ◌∷◌, take, drop, get_or, eqb, ltb, None, Option, Some}
+use Rattle.runs.specs.Runs.{pick}
 use Rattle.tables.specs.declared.origins.Origin.{Origin}
 use Rattle.tables.specs.declared.origins.Origin.TheVariants.{Tatsam, Tadbhav, Deshaj, Aagantuk}
 use Rattle.std.specs.Float.{binary32}
@@ -70,13 +71,16 @@ row_at bytes = record {
 abbrev pub has_bit : ℕ → ℕ → Bool
 has_bit power byte = ltb 0 (byte / power % 2)
 
+-- the prefix that its row and the count of prefixes say
+abbrev pub prefix_at : ℕ → ℕ → Option ℕ
+prefix_at row count = pick (eqb count 0) None (Some row)
+
 -- the parts whose row stands at the front: five bytes, and the 24 places for suffix rows from byte 9 on
 abbrev pub parts_at : List ℕ → Parts
 parts_at bytes = record {
   start = get_or bytes 0 0;
   end = get_or bytes 1 0;
-  prefix = get_or bytes 2 0;
-  prefix_count = get_or bytes 3 0;
+  prefix = prefix_at (get_or bytes 2 0) (get_or bytes 3 0);
   suffix_count = get_or bytes 4 0;
   suffixes = take 24 (drop 9 bytes);
 }

@@ -19,8 +19,8 @@ fn put_parts(p: Parts, a: u8, b: u8, c: u8, d: u8, out: &mut [u8])
     let front = [
         p.start,
         p.end,
-        p.prefix,
-        p.prefix_count,
+        p.prefix.unwrap_or(0),
+        p.prefix_count(),
         p.suffix_count,
         a,
         b,

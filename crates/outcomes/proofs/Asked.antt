@@ -23,7 +23,7 @@ use Rattle.origin.specs.Decisions.{decision_of}
 use Rattle.origin.specs.declared.OriginDecision.{OriginDecision}
 use Rattle.origin.proofs.Alike.{decision_alike}
 use Rattle.decomposition.specs.Strips.{is_word, label_row, least_root, is_kept, left_of, is_taken, first_taken, Stage, taken, strip_row, strip_rows, no_front, front_at, leaves_word, first_front}
-use Rattle.decomposition.specs.Parts.{parts_of, root_text, whole_stage, behind_front, of_stage, decomposed_of, morpheme_of}
+use Rattle.decomposition.specs.Parts.{prefixes_of, parts_of, root_text, whole_stage, behind_front, of_stage, decomposed_of, morpheme_of}
 use Rattle.decomposition.specs.declared.fronts.Front.{Front}
 use Rattle.decomposition.specs.declared.Parts.{Parts}
 use Rattle.decomposition.proofs.Meant.{decomposed_root}
@@ -300,7 +300,7 @@ module _ (ask ask' : Ask) (w : List ℕ) (utf8 : is_utf8 w ≡ true) (agree : (p
   unfolding kept_of candidate_by
   kept_same xs p t =
       ap₂ (λ (d : OriginDecision) (l : Letters). pick (is_known l) (once w (record {
-        score = score_by (chars w) l p.prefix_count p.suffix_count;
+        score = score_by (chars w) l (length (prefixes_of p.prefix)) p.suffix_count;
         parts = p;
         origin = d.origin;
         known_word = l.word;

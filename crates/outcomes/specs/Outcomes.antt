@@ -15,6 +15,7 @@ use Rattle.refusals.specs.Refusals.{numbers_of}
 use Rattle.decomposition.specs.declared.Morpheme.{Morpheme}
 use Rattle.progressive.specs.declared.find.Progressive.{Progressive}
 use Rattle.refusals.specs.declared.Refusal.{Refusal}
+use Rattle.decomposition.specs.Parts.{prefixes_of}
 use Rattle.decomposition.specs.Answers.{morpheme_answer}
 use Rattle.listing.specs.Printed.{printed}
 
@@ -82,7 +83,7 @@ form_of w s (Ok (Some p)) = form (part w 0 p.main_end) p.negative (lemma_part s 
 abbrev pub parts_of : List ℕ → Result Morpheme Refusal → Outcome
 parts_of w (Ok m) =
     let p = m.parts in
-    parts (part w p.start p.end) (map label_of (take p.prefix_count (p.prefix ∷ []))) (map (λ (k : ℕ). get_or suffixes k []) (take p.suffix_count p.suffixes))
+    parts (part w p.start p.end) (map label_of (prefixes_of p.prefix)) (map (λ (k : ℕ). get_or suffixes k []) (take p.suffix_count p.suffixes))
 parts_of w (Err r) = refused (numbers_of r)
 
 -- the outcome of a question

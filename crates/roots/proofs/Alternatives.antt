@@ -1,4 +1,4 @@
--- Keys of a rank in their order, and the orders of std by which the code compares them. The proofs of `key_order`, `rank` and `holds`
+-- Keys of a rank in their order, and the orders of std by which the code compares them. The proofs of `key_order` and `rank`
 -- cite these. Assumes nothing.
 use mathlib.Core.Path.{◌≡◌, refl, ap, ◌∙◌}
 use mathlib.Core.Bool.{Bool, true, false}
@@ -39,8 +39,3 @@ havings true true = refl
 havings true false = refl
 havings false true = refl
 havings false false = refl
-
-pub equals : (o : Ordering) → is_eq o ≡ is_equal o
-equals Less = refl
-equals Equal = refl
-equals Greater = refl

@@ -86,10 +86,6 @@ module _ (n : ℕ) (ask : Ask) (w : List ℕ) where
   unfolding held_all
   held_none xs = refl
 
-  pub held_one : (xs : List RootCandidate) (p : Parts) → held_of n ask w xs p ≡ held_all n ask w xs (p ∷ [])
-  unfolding held_all
-  held_one xs p = refl
-
   pub held_first : (xs : List RootCandidate) (p : Parts) (ps : List Parts) → held_all n ask w (held_of n ask w xs p) ps ≡ held_all n ask w xs (p ∷ ps)
   unfolding held_all
   held_first xs p ps = refl
