@@ -14,10 +14,7 @@ use ranking::{AffixKind, Segment};
 fn rows_after(k: u8) -> u8
     ensures { (result ≡ rows_after k) × (result ≤ 18) }
 {
-    if k < 2 {
-        return 0;
-    }
-    18
+    if k < 2 { 0 } else { 18 }
 }
 
 // How many times the source's strips of row k lead to what they leave of a piece whose plural markers it strips so many times: behind a
@@ -26,13 +23,11 @@ fn times_after(times: u8, k: u8) -> u8
     requires { times ≤ 2 }
     ensures { (result ≡ times_after times k) × (result ≤ 2) }
 {
-    if k < 2 {
-        return times;
+    match k {
+        0..=1 => times,
+        2..=17 => 2,
+        _ => 1,
     }
-    if 17 < k {
-        return 1;
-    }
-    2
 }
 
 // One suffix more, nearest the stem.
@@ -40,9 +35,7 @@ fn pushed(c: Chain, s: Segment) -> Chain
     requires { c.count < most_strips }
     ensures { result ≡ pushed_of c s }
 {
-    let x = c.segments[0];
-    let y = c.segments[1];
-    let z = c.segments[2];
+    let [x, y, z, _] = c.segments;
     Chain {
         segments: [s, x, y, z],
         count: c.count + 1,

@@ -36,13 +36,11 @@ fn entries(rows: u8, times: u8) -> u8
     requires { times ≤ 2 }
     ensures { (result ≡ entries_at rows times) × (result ≤ 6) }
 {
-    if 18 < rows {
-        return 2 * times + 2;
+    match rows {
+        0 => times,
+        1..=18 => 2 * times + 1,
+        _ => 2 * times + 2,
     }
-    if 0 < rows {
-        return 2 * times + 1;
-    }
-    times
 }
 
 // So many entries, of which each counts `each`.
