@@ -1,14 +1,13 @@
 // What the walk has kept, handed out: each reading with its root's origin, how that is known, and how surely. Rank does not look at it,
 // so it is decided once the rows are in their order.
-ghost use Rattle.std.specs.Prelude.{◌≡◌, map, ◌≤◌, length};
+ghost use Rattle.std.specs.Prelude.{◌≡◌, map};
 ghost use Rattle.lookup.specs.Lexicons.{replies};
-ghost use Rattle.ranking.specs.Lists.{list_limit};
 ghost use Rattle.paths.specs.Readings.{classified};
 
 use arrayvec::ArrayVec;
 use lookup::lexicon::Lexicon;
 use origin::decide_origin;
-use ranking::{Classified, Listing, Reading, root_of, with_origin};
+use ranking::{Classified, Listing, Reading, Readings, root_of, with_origin};
 
 // A reading of the word with what the sheet and the root alone decide of the root.
 pub fn classify_root(word: &[u8], sheet: &Lexicon<'_>, reading: Reading) -> Classified
@@ -18,12 +17,11 @@ pub fn classify_root(word: &[u8], sheet: &Lexicon<'_>, reading: Reading) -> Clas
 }
 
 // The readings of the word in the same order, each with its root's origin.
-pub fn classify_rows(word: &[u8], sheet: &Lexicon<'_>, rows: &[Reading]) -> Listing
-    requires { length rows.now ≤ list_limit }
-    ensures { result.items ≡ map (classified (replies sheet.now) word.now) rows.now }
+pub fn classify_rows(word: &[u8], sheet: &Lexicon<'_>, rows: &Readings) -> Listing
+    ensures { result.items ≡ map (classified (replies sheet.now) word.now) rows.now.items }
 {
     let mut list = ArrayVec::new();
-    for &reading in rows {
+    for &reading in rows.as_slice() {
         list.push(classify_root(word, sheet, reading));
     }
     list

@@ -27,7 +27,7 @@ use Rattle.progressive.specs.Progressive.{Outcome, no, yes, progressive_of}
 use Rattle.progressive.specs.Found.{form_of}
 use Rattle.progressive.specs.Answers.{answer_if, answer_of}
 use Rattle.progressive.specs.declared.find.Progressive.{Progressive}
-use Rattle.ranking.specs.Places.{no_row}
+use Rattle.ranking.specs.Past.{no_row}
 use Rattle.ranking.specs.Stored.{cells, reading_bytes, reading_at}
 use Rattle.ranking.proofs.Backs.{two_read, reading_read}
 use Rattle.ranking.specs.declared.Reading.{Reading}

@@ -24,7 +24,7 @@ use Rattle.sheet.specs.Lines as sheets
 use Rattle.sheet.specs.declared.check.SheetFault.{SheetFault}
 use Rattle.sheet.specs.declared.check.SheetFault.TheVariants as faults
 use Rattle.sheet.proofs.Faults.{Inside, fault-inside}
-use Rattle.ranking.specs.Places.{no_row}
+use Rattle.ranking.specs.Past.{no_row}
 use Rattle.ranking.specs.declared.Classified.{Classified}
 use Rattle.analysis.specs.Answers.{said_of, rows_given}
 use Rattle.analysis.proofs.Promises.{all_recomposed}

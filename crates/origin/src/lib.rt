@@ -18,8 +18,9 @@ pub mod marks;
 mod quick;
 
 // How an origin is known.
-#[derive(Clone, Copy, Debug, PartialEq, Eq)]
+#[derive(Clone, Copy, Debug, Default, PartialEq, Eq)]
 pub enum OriginSource {
+    #[default]
     Override,
     Kosha,
     Heuristic,

@@ -3,6 +3,7 @@ use Prim.Native.Nat.{ℕ, ◌+◌, ◌*◌, ◌/◌, ◌%◌, ◌<◌}
 use mir.Syntax.{w16}
 use Rattle.std.specs.Int.{to_le_bytes}
 use native.Mathlib.Omega.{arith}
+use mir.Val.{bool_byte}
 use mathlib.Core.Path.{◌≡◌, refl, ap₂}
 use mathlib.Core.Bool.{Bool, true, false}
 use lib.Dec.{ltb}
@@ -59,8 +60,12 @@ reading_read r rest p s =
     reading_is r (two_read r.stem) (two_read r.root) (two_read r.score) (pair_read r.prefixes p) (four_read r.segments s)
 
 -- the bytes that are stored are those of the row
-pub segment-bytes : (x : Segment) {k m : ℕ} → k ≡ kind_number x.kind → m ≡ mark_number x.shared → x.label ∷ k ∷ m ∷ [] ≡ segment_bytes x
-segment-bytes x p q = rw (p, q)
+marked : (b : Bool) → bool_byte b ≡ mark_number b
+marked true = refl
+marked false = refl
+
+pub segment-bytes : (x : Segment) {k m : ℕ} → k ≡ kind_number x.kind → m ≡ bool_byte x.shared → x.label ∷ k ∷ m ∷ [] ≡ segment_bytes x
+segment-bytes x p q = rw (p, q, marked x.shared)
 
 -- a number of 16 bits, as two bytes
 low_byte : (n : ℕ) {b : List ℕ} → b ≡ to_le_bytes w16 n → get_or b 0 0 ≡ n % 256

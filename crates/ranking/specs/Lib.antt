@@ -5,5 +5,5 @@ pub mod Scores
 pub mod Lists
 pub mod Stored
 -- Machinery: what contracts inside say on the way. Whoever reads the promises need not read it.
-pub mod Places
+pub mod Past
 pub mod Kept

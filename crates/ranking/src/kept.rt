@@ -1,19 +1,19 @@
 // Readings that a walk has collected, in rank order: as many as a list holds, or that there are more.
-ghost use Rattle.std.specs.Prelude.{◌≡◌, ◌≤◌, [], length, MatchOption};
+ghost use Rattle.std.specs.Prelude.{◌≡◌, [], MatchOption};
 ghost use Rattle.std.specs.List.{position_or_len};
-ghost use Rattle.ranking.specs.Lists.{list_limit, Rows, over, plus};
+ghost use Rattle.ranking.specs.Lists.{Rows, over, plus};
 ghost use Rattle.ranking.specs.Rank.{ahead_of};
 ghost use Rattle.ranking.specs.Kept.{kept_rows};
 ghost use Rattle.ranking.specs.Lists as lists;
 
-use crate::{LIMIT, Reading, ahead};
+use crate::{Reading, Readings, ahead};
 use arrayvec::ArrayVec;
 use std::marker::Model;
 
 // The rows, or none where there are too many.
 #[derive(Drop)]
 pub struct Kept {
-    rows: Option<ArrayVec<Reading, LIMIT>>,
+    rows: Option<Readings>,
 }
 
 impl Model for Kept {
@@ -56,12 +56,9 @@ impl Kept {
     }
 
     // The rows, or nothing where there are too many.
-    pub fn rows(&self) -> Option<&[Reading]>
-        ensures { MatchOption result (self.now ≡ over) (λ kept. (self.now ≡ lists.rows kept.now) × (length kept.now ≤ list_limit)) }
+    pub fn rows(&self) -> Option<&Readings>
+        ensures { MatchOption result (self.now ≡ over) (λ kept. self.now ≡ lists.rows kept.now.items) }
     {
-        match &self.rows {
-            None => None,
-            Some(rows) => Some(rows.as_slice()),
-        }
+        self.rows.as_ref()
     }
 }

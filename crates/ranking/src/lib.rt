@@ -53,7 +53,7 @@ pub struct Reading {
 }
 
 // A reading as it is handed out: with its root's origin, how that is known, and how surely. Here too no gap lies between the fields.
-#[derive(Clone, Copy)]
+#[derive(Clone, Copy, Default)]
 pub struct Classified {
     pub reading: Reading,
     pub origin: Origin,
@@ -61,19 +61,9 @@ pub struct Classified {
     pub confidence: f32,
 }
 
-// What stands in a place that is not used.
-impl Default for Classified {
-    fn default() -> Classified {
-        Classified {
-            reading: Reading::default(),
-            origin: Origin::Tatsam,
-            source: OriginSource::Override,
-            confidence: 0.0,
-        }
-    }
-}
+// A word's readings in rank order, as a walk keeps them, and as they are handed out.
+pub type Readings = ArrayVec<Reading, LIMIT>;
 
-// The list of a word's readings, in rank order.
 pub type Listing = ArrayVec<Classified, LIMIT>;
 
 // The bytes of the word from `from` to `to`, nothing where that is no place inside the word.
@@ -118,11 +108,7 @@ pub fn ahead(word: &[u8], a: Reading, b: Reading) -> bool
 pub fn blank() -> Segment
     ensures { result ≡ no_segment }
 {
-    Segment {
-        label: 0,
-        kind: AffixKind::Particle,
-        shared: false,
-    }
+    Segment::default()
 }
 
 // A reading with what is decided of its root.

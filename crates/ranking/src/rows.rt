@@ -2,7 +2,7 @@
 // of 16 bits, stem, root and score; two prefix rows; four times a suffix row, the number of its kind and 1 where its first letter is shared, else 0;
 // the two counts.
 ghost use Rattle.std.specs.Prelude.{◌≡◌, ◌++◌, ◌+◌, ◌*◌, ◌/◌, ◌%◌, ◌≤◌, ◌<◌, length, drop};
-ghost use Rattle.ranking.specs.Stored.{kind_number, mark_number, kind_at, two_at, segment_at, reading_bytes, reading_at, reading_width};
+ghost use Rattle.ranking.specs.Stored.{kind_number, kind_at, two_at, segment_at, reading_bytes, reading_at, reading_width};
 
 use crate::{AffixKind, Reading, Segment};
 
@@ -16,34 +16,34 @@ fn two_at(row: &[u8], i: usize) -> u16
     u16::from_le_bytes([row[i], row[i + 1]])
 }
 
-fn kind_number(kind: AffixKind) -> u8
-    ensures { result ≡ kind_number kind }
-{
-    match kind {
-        AffixKind::Particle => 0,
-        AffixKind::CaseMarker => 1,
-        AffixKind::PluralMarker => 2,
-        AffixKind::Postposition => 3,
-        AffixKind::ComparisonMarker => 4,
+// The number of a kind.
+impl From<AffixKind> for u8 {
+    ghost from_gives = { λ kind r. r ≡ kind_number kind };
+
+    fn from(kind: AffixKind) -> u8 {
+        match kind {
+            AffixKind::Particle => 0,
+            AffixKind::CaseMarker => 1,
+            AffixKind::PluralMarker => 2,
+            AffixKind::Postposition => 3,
+            AffixKind::ComparisonMarker => 4,
+        }
     }
 }
 
-fn kind_at(n: u8) -> AffixKind
-    ensures { result ≡ kind_at n }
-{
-    match n {
-        1 => AffixKind::CaseMarker,
-        2 => AffixKind::PluralMarker,
-        3 => AffixKind::Postposition,
-        4 => AffixKind::ComparisonMarker,
-        _ => AffixKind::Particle,
-    }
-}
+// The kind of a number; the first for one that no kind has.
+impl From<u8> for AffixKind {
+    ghost from_gives = { λ n r. r ≡ kind_at n };
 
-fn mark_number(shared: bool) -> u8
-    ensures { result ≡ mark_number shared }
-{
-    u8::from(shared)
+    fn from(n: u8) -> AffixKind {
+        match n {
+            1 => AffixKind::CaseMarker,
+            2 => AffixKind::PluralMarker,
+            3 => AffixKind::Postposition,
+            4 => AffixKind::ComparisonMarker,
+            _ => AffixKind::Particle,
+        }
+    }
 }
 
 // A reading, at the front of the buffer.
@@ -66,17 +66,17 @@ pub fn put_reading(r: Reading, out: &mut [u8])
         prefixes[0],
         prefixes[1],
         first.label,
-        kind_number(first.kind),
-        mark_number(first.shared),
+        u8::from(first.kind),
+        u8::from(first.shared),
         second.label,
-        kind_number(second.kind),
-        mark_number(second.shared),
+        u8::from(second.kind),
+        u8::from(second.shared),
         third.label,
-        kind_number(third.kind),
-        mark_number(third.shared),
+        u8::from(third.kind),
+        u8::from(third.shared),
         fourth.label,
-        kind_number(fourth.kind),
-        mark_number(fourth.shared),
+        u8::from(fourth.kind),
+        u8::from(fourth.shared),
         r.prefix_count,
         r.suffix_count,
     ];
@@ -90,7 +90,7 @@ fn segment_at(row: &[u8], i: usize) -> Segment
 {
     Segment {
         label: row[i],
-        kind: kind_at(row[i + 1]),
+        kind: AffixKind::from(row[i + 1]),
         shared: 0 < row[i + 2],
     }
 }

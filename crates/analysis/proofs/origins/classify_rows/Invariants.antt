@@ -7,4 +7,4 @@ use Rattle.paths.specs.Readings.{classified}
 use Rattle.analysis.proofs.origins.classify_rows.Given as goal
 
 abbrev pub invariant-loop-reading : goal.invariant-loop-reading
-invariant-loop-reading l = l.list.items ≡ map (classified (reply l.sheet.bytes.now) l.word) (take l.reading-index l.rows)
+invariant-loop-reading l = l.list.items ≡ map (classified (reply l.sheet.bytes.now) l.word) (take l.reading-index l.rows.items)

@@ -14,5 +14,5 @@ returns c =
     let t = s.r.segments in
     ap (λ (l : List ℕ). l ++ drop reading_width s.out.now)
     (c.copy_from_slice.ensures.after ∙ reading-bytes s.r (omega arith, omega arith, omega arith) c.to_le_bytes-stem.ensures c.to_le_bytes-root.ensures c.to_le_bytes-score.ensures
-    (segment-bytes (get_or t 0 no_segment) c.kind_number.ensures c.mark_number.ensures) (segment-bytes (get_or t 1 no_segment) c.kind_number-2.ensures c.mark_number-2.ensures)
-    (segment-bytes (get_or t 2 no_segment) c.kind_number-3.ensures c.mark_number-3.ensures) (segment-bytes (get_or t 3 no_segment) c.kind_number-4.ensures c.mark_number-4.ensures))
+    (segment-bytes (get_or t 0 no_segment) c.from.ensures c.from-2.ensures) (segment-bytes (get_or t 1 no_segment) c.from-3.ensures c.from-4.ensures)
+    (segment-bytes (get_or t 2 no_segment) c.from-5.ensures c.from-6.ensures) (segment-bytes (get_or t 3 no_segment) c.from-7.ensures c.from-8.ensures))

@@ -9,4 +9,4 @@ use Rattle.ranking.proofs.rows.segment_at.Goals as goal
 pub returns : goal.returns
 returns c =
     let a = c.args in
-    ap (λ (k : AffixKind). record { label = get_or a.row.now a.i 0; kind = k; shared = ltb 0 (get_or a.row.now (a.i + 2) 0) }) c.kind_at.ensures
+    ap (λ (k : AffixKind). record { label = get_or a.row.now a.i 0; kind = k; shared = ltb 0 (get_or a.row.now (a.i + 2) 0) }) c.from.ensures
