@@ -1,5 +1,5 @@
 -- What is asked in document 01's worked cases, and how an outcome is said there: by texts, labels and kinds. Assumes nothing.
-use Rattle.std.specs.Prelude.{ℕ, Bool, List, [], ◌∷◌, map, take, get_or, Err, Ok, Result, Option, Some, None}
+use Rattle.std.specs.Prelude.{ℕ, Bool, List, [], map, take, get_or, Err, Ok, Result, Option, Some, None}
 use Rattle.tables.specs.Rows.{prefix_labels, suffixes}
 use Rattle.tables.specs.Tables.{affixes}
 use Rattle.ranking.specs.Parts.{part}

@@ -2,14 +2,14 @@
 -- cite these. Assumes nothing.
 use mathlib.Core.Path.{◌≡◌, refl, ap, ◌∙◌}
 use mathlib.Core.Bool.{Bool, true, false}
-use Rattle.std.specs.Ordering.{MatchOrdering, is_eq, nat_cmp, bool_cmp}
+use Rattle.std.specs.Ordering.{MatchOrdering, nat_cmp, bool_cmp}
 use Rattle.std.specs.Cmp.{ranks}
 use Prim.Native.Nat.{ℕ, ◌<◌}
 use native.Mathlib.Omega.{arith}
 use Rattle.std.specs.declared.cmp.Ordering.{Ordering}
 use Rattle.std.specs.declared.cmp.Ordering.TheVariants.{Less, Equal, Greater}
 use borrow.Author.Tests.{lt-ltb, le-ltb}
-use Rattle.roots.specs.Rank.{is_equal, then_by, descending, having}
+use Rattle.roots.specs.Rank.{then_by, descending, having}
 
 -- std's `then_with` is the first that decides
 pub then_is : {P : Type 0} (o x r rest : Ordering) → o ≡ x → MatchOrdering o (r ≡ Less) P (r ≡ Greater) → (P → r ≡ rest) → r ≡ then_by x rest
