@@ -2,8 +2,7 @@
 ghost use Rattle.std.specs.Prelude.{◌≡◌, length};
 ghost use Rattle.filled.specs.FilledRoots.{roots_filled, roots_output};
 
-use crate::fill;
-use refusals::Refusal;
+use refusals::{Refusal, fill};
 use roots::RootCandidate;
 use roots::entries::lookup_root_candidates;
 
@@ -18,5 +17,5 @@ pub fn fill_candidates(
         × (out.new ≡ roots_output word.now sheet.now out.old) }
 {
     let list = lookup_root_candidates(word, sheet)?;
-    fill(list.as_slice(), out)
+    fill(list.as_slice(), out, |row| row)
 }

@@ -86,7 +86,6 @@ pub fn with_lexicon<R, F: FnOnce(&Lexicon<'_>) -> R>(sheet: &[u8], ask: F) -> Re
         nothing,
         |lexicon, _|
             requires { F.IsAlwaysCallable ask }
-            ensures { F.post ask lexicon.entry result }
         { ask(lexicon) },
     )
 }

@@ -7,7 +7,7 @@ use native.Mathlib.Omega.{arith}
 use mathlib.Core.Path.{◌≡◌, refl, ap, ◌∙◌}
 use mathlib.Core.Bool.{true, false}
 use mathlib.Core.List.{List, [], ◌∷◌, ◌++◌}
-use lib.ListN.{length, take, drop, get_or, set, drop_of_length-le}
+use lib.ListN.{length, take, drop, get_or, drop_of_length-le}
 use lib.Seq.{drop-cons}
 use Rattle.runs.specs.Runs.{same_text}
 use Rattle.sheet.specs.Forms.{is_form, key, key_of}
@@ -19,7 +19,7 @@ use Rattle.referred.specs.declared.Fault.{Fault}
 use Rattle.referred.specs.declared.Fault.TheVariants.{Missing, NotVerb, Unused}
 use Rattle.referred.specs.declared.Finding.{Finding}
 use Rattle.referred.specs.Report.{is_text, fault_at, found, findings_at, findings_of, before, behind, finding_line, finding_lines}
-use Rattle.referred.specs.Codes.{code_for, code_of, codes_of, fault_in}
+use Rattle.referred.specs.Codes.{code_for, codes_of, fault_in}
 
 
 -- line i, and those to come
@@ -40,18 +40,6 @@ found_end s starts i h = rw (drop_of_length-le starts h)
 pub codes_length : (fs : List Finding) → length (codes_of fs) ≡ length fs
 codes_length [] = refl
 codes_length (f ∷ fs) = ap suc (codes_length fs)
-
--- one code stored behind those of the findings before it
-pub codes_turn : (fs : List Finding) (old : List ℕ) (i : ℕ) (d : Finding) → i < length fs → length fs ≤ length old
-    → set (codes_of (take i fs) ++ drop i old) i (code_of (get_or fs i d)) ≡ codes_of (take (i + 1) fs) ++ drop (i + 1) old
-codes_turn fs old i d h k = rw (add-one i) (go fs old i h k)
-  where
-    go : (fs : List Finding) (old : List ℕ) (i : ℕ) → i < length fs → length fs ≤ length old
-        → set (codes_of (take i fs) ++ drop i old) i (code_of (get_or fs i d)) ≡ codes_of (take (suc i) fs) ++ drop (suc i) old
-    go [] old i h k = absurd (omega arith)
-    go (f ∷ fs) [] i h k = absurd (omega arith)
-    go (f ∷ fs) (o ∷ old) zero h k = refl
-    go (f ∷ fs) (o ∷ old) (suc i) h k = ap (λ (x : List ℕ). code_of f ∷ x) (go fs old i (omega arith) (omega arith))
 
 -- what a code says is the finding again
 module _ (s : List ℕ) (at : ℕ) where

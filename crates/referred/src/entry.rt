@@ -11,7 +11,7 @@ use crate::lines::Report;
 use crate::{Fault, Finding};
 use lookup::lexicon::Lexicon;
 use lookup::lines::with_lexicon_into;
-use refusals::Refusal;
+use refusals::{Refusal, fill};
 use sheet::check::SheetFault;
 use sheet::limits::{ALL_STARTS, FEW_STARTS};
 use writing::write_whole;
@@ -81,14 +81,7 @@ fn with_findings<T, R, F: FnOnce(&Report<'_>, &mut [T]) -> R>(
 fn put_codes(report: &Report<'_>, out: &mut [u32]) -> Result<usize, Refusal>
     ensures { (result ≡ room_for (length (codes_of report.now.findings.now)) (length out.old)) × (out.new ≡ output_by result (codes_of report.now.findings.now) out.old) }
 {
-    let n = report.findings.len();
-    if out.len() < n {
-        return Err(Refusal::OutputTooShort);
-    }
-    for (i, finding) in report.findings.iter().enumerate() {
-        out[i] = finding.code();
-    }
-    Ok(n)
+    fill(report.findings, out, |finding| finding.code())
 }
 
 // Stores the lines of the sheet whose reference does not hold at the front of `out`, in the sheet's order, one number each: what is wrong in

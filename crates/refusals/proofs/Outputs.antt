@@ -1,11 +1,12 @@
 -- Laws of what an entry that is lent an output hands back and leaves, for elements of any type. Assumes nothing.
 use Rattle.std.specs.Prelude.{Err, Ok, Result}
-use Prim.Native.Nat.{ℕ, suc, ◌-◌, ◌≤◌, ◌<◌}
+use Prim.Native.Nat.{ℕ, zero, suc, ◌+◌, ◌-◌, ◌≤◌, ◌<◌}
+use native.Mathlib.Numerals.{add-one}
 use native.Mathlib.Omega.{arith}
 use mathlib.Core.Path.{◌≡◌, refl, sym, ap, ◌∙◌}
 use mathlib.Core.Bool.{Bool, true, false}
-use mathlib.Core.List.{List, [], ◌∷◌, ◌++◌}
-use lib.ListN.{length, drop, length-append, length-drop}
+use mathlib.Core.List.{List, [], ◌∷◌, ◌++◌, map}
+use lib.ListN.{length, take, drop, get_or, set, length-append, length-drop}
 use lib.Dec.{leb, ltb}
 use borrow.Author.Tests.{leb-true, leb-false, le-leb, lt-leb, lt-ltb, le-ltb}
 use Rattle.runs.specs.Runs.{pick}
@@ -104,3 +105,15 @@ module _ {A : Type 0} where
       by : (b : Bool) → leb (length answer) (length old) ≡ b → length (output_by (pick b (Ok (length answer)) (Err OutputTooShort)) answer old) ≡ length old
       by true t = over-length answer old (leb-true (length answer) (length old) t)
       by false t = refl
+
+-- one row stored behind those before it
+pub filled_turn : {A B : Type 0} (of : A → B) (xs : List A) (old : List B) (i : ℕ) (d : A) → i < length xs → length xs ≤ length old
+    → set (map of (take i xs) ++ drop i old) i (of (get_or xs i d)) ≡ map of (take (i + 1) xs) ++ drop (i + 1) old
+filled_turn {A} {B} of xs old i d h k = rw (add-one i) (go xs old i h k)
+  where
+    go : (xs : List A) (old : List B) (i : ℕ) → i < length xs → length xs ≤ length old
+        → set (map of (take i xs) ++ drop i old) i (of (get_or xs i d)) ≡ map of (take (suc i) xs) ++ drop (suc i) old
+    go [] old i h k = absurd (omega arith)
+    go (x ∷ xs) [] i h k = absurd (omega arith)
+    go (x ∷ xs) (o ∷ old) zero h k = refl
+    go (x ∷ xs) (o ∷ old) (suc i) h k = ap (λ (l : List B). of x ∷ l) (go xs old i (omega arith) (omega arith))

@@ -1,6 +1,9 @@
 -- `fill_readings` meets its contract: why there is no list, or its rows fill the slice. Assumes nothing.
 use Rattle.std.proofs.lemmas.Result.{err_from_is_err_and}
-use mathlib.Core.Path.{sym, ◌∙◌}
+use Rattle.std.proofs.Common.{rules, List}
+use Rattle.std.proofs.lemmas.List.{map-id}
+use mathlib.Core.Path.{sym, ap, ◌∙◌}
+use Rattle.refusals.specs.Refusals.{output_by}
 use Rattle.analysis.proofs.Answered.{answer-refused, answer-listed}
 use Rattle.filled.proofs.Outcomes.{refused, filled}
 use Rattle.filled.proofs.fill_readings.Goals as goal
@@ -15,4 +18,4 @@ pub returns : goal.returns
 returns c =
     let a = c.args in
     let e = answer-listed a.word.now a.sheet.now c.in_ok-list.list (sym c.analyze_affixes.ensures.0 ∙ c.in_ok-list.was) in
-    filled a.word.now a.sheet.now a.out.now _ _ _ e.0 (c.as_slice.ensures.value ∙ e.1) c.fill.ensures.0 c.fill.ensures.1
+    filled a.word.now a.sheet.now a.out.now _ _ _ e.0 (c.as_slice.ensures.value ∙ e.1) c.fill.ensures.size (c.fill.ensures.left (λ x. x) (λ x y k. search rules) ∙ ap (λ (l : List _). output_by c.fill.result l a.out.now) (map-id _))

@@ -1,8 +1,12 @@
--- `entry::put_codes` meets its contract: the codes of the findings so far stand before what the list held. Assumes nothing.
-use Rattle.std.proofs.Common.{arith}
-use Rattle.referred.proofs.Found.{codes_turn}
+-- `entry::put_codes` meets its contract: what is made of each finding is its code. Assumes nothing.
+use Rattle.std.proofs.Common.{rules, ap, sym, ◌∙◌, ◌≡◌, length}
+use Rattle.refusals.specs.Refusals.{room_for}
+use Rattle.referred.specs.Codes.{code_of}
+use Rattle.referred.proofs.Found.{codes_length}
 use Rattle.referred.proofs.entry.put_codes.Goals as goal
 
-pub loop-i-preserved : goal.loop-i-preserved
-loop-i-preserved c =
-    rw (c.loop-i.invariant, c.code.ensures) (codes_turn c.args.report.now.findings.now c.args.out.now c.loop-i.i _ (omega arith) (omega arith))
+pub returns : goal.returns
+returns c = (
+  c.fill.ensures.size ∙ ap (λ (n : _). room_for n (length c.args.out.now)) (sym (codes_length c.args.report.now.findings.now)),
+  c.fill.ensures.left code_of (λ x y k. search rules),
+)
