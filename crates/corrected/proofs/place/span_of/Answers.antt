@@ -1,10 +1,10 @@
 -- `place::span_of` meets its contract: the lines that begin with the name tell how many stand below its key. Assumes nothing.
 use Prim.Native.Nat.{ℕ}
 use native.Mathlib.Omega.{arith}
-use mathlib.Core.Path.{◌≡◌, refl, ap, ◌∙◌}
+use mathlib.Core.Path.{◌≡◌, ap, ◌∙◌}
 use mathlib.Core.Bool.{true}
 use mathlib.Core.List.{List, append-nil}
-use lib.ListN.{drop, get_or}
+use lib.ListN.{drop}
 use Rattle.runs.specs.Runs.{cmp}
 use Rattle.sheet.specs.Forms.{is_form, key, key_of}
 use Rattle.sheet.specs.Lines.{line_at}
