@@ -4,6 +4,11 @@ use Rattle.std.proofs.lemmas.List.{length-take-le}
 use Rattle.std.proofs.Math.Seq.{take-add, drop-length}
 use Rattle.blocks.specs.Cases.{Behind, CutFrom}
 
+-- what is left of s from some byte on
+pub record Left (s rest : List ℕ) : Type 0 where
+  pub next : ℕ
+  pub left : rest ≡ drop next s
+
 -- behind the numbers stand a word of n bytes and a sheet of m
 pub cut : (s after behind word sheet : List ℕ) (n m k : ℕ) → Behind s after → Behind after behind → 0 < length s → n + m ≤ length behind → k ≤ 1
     → word ≡ take n behind → sheet ≡ take m (drop n behind) → CutFrom s word sheet (drop k (drop m (drop n behind)))

@@ -17,14 +17,15 @@ fn decimal(s: &[u8]) -> (usize, &[u8])
     ensures { (result.0 ≤ 2000000) × Behind s.now result.1.now }
 {
     let mut value: usize = 0;
-    for k in 0..s.len() {
-        let b = s[k];
+    let mut rest = s;
+    while let [b, tail @ ..] = rest {
         if !b.is_ascii_digit() || 100000 < value {
-            return (value, &s[k + 1..]);
+            return (value, tail);
         }
-        value = value * 10 + (b - b'0') as usize;
+        value = value * 10 + (*b - b'0') as usize;
+        rest = tail;
     }
-    (value, &s[s.len()..])
+    (value, rest)
 }
 
 // The first case: two counts, the word, the sheet, and a byte 0A. An empty one before nothing where a count is too large; none where

@@ -14,7 +14,6 @@ use Rattle.sheet.specs.Limits.{sheet_limit}
 use Rattle.sheet.specs.Forms.{Entry, entry_of, key, key_of}
 use Rattle.sheet.specs.Lines.{lines_of, sheet_text, sheet_check}
 use Rattle.sheet.specs.Replies.{unknown, told, reply_in, reply, Alike}
-use Rattle.sheet.specs.declared.check.SheetFault.TheVariants as sheets
 use Rattle.sheet.proofs.Accepted.{accepted-short}
 use Rattle.sheet.proofs.Texts.{Good, Rises, form_good, accepted_rises, accepted-text, lines-back, text-accepted}
 use Rattle.corrected.specs.Sets.{is_single, without, having, placed, in_order, put_text, withdrawn_text}

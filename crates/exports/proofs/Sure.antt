@@ -30,8 +30,8 @@ by_table (Some o) d h = of_bits-fits binary32 0x3F800000
 by_table None d h = h
 
 by_kosha : (f : Float) (k : Option Known) (d : OriginDecision) → T (fits binary32 f) → Sure d → Sure (or_by_kosha f k d)
-by_kosha f (Tagged o) d s h = s
-by_kosha f Headword d s h = of_bits-fits binary32 0x00000000
+by_kosha f (Some (Tagged o)) d s h = s
+by_kosha f (Some Headword) d s h = of_bits-fits binary32 0x00000000
 by_kosha f None d s h = h
 
 by-mark : (o : Origin) → Sure (by_marks o)

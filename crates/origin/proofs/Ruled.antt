@@ -6,7 +6,8 @@ use mathlib.Core.Path.{◌≡◌, refl, sym, ap, ◌∙◌}
 use mathlib.Core.Bool.{Bool, true, false, ◌&&◌, ◌||◌}
 use mathlib.Core.List.{List, [], ◌∷◌, ◌++◌}
 use lib.ListN.{length, drop, get_or, drop_of_length-le}
-use lib.Seq.{get_or-drop, drop-cons}
+use lib.Seq.{get_or-drop, drop-drop}
+use Rattle.std.specs.List.{list_any, range_with_len}
 use lib.Dec.{ltb, leb}
 use borrow.Author.Tests.{leb-true, ltb-true, le-ltb}
 use Rattle.runs.specs.Runs.{pick, same_text, begins_with, ends_in}
@@ -31,16 +32,14 @@ use Rattle.origin.specs.Quick.{last_bytes, ends_listed, may_list, opens_cluster,
 -- A test of the tails, one by one.
 
 module _ (f : List ℕ → Bool) where
-  pub some_at : (w : List ℕ) (i : ℕ) (b : Bool) → i < length w → b ≡ f (drop i w) → somewhere f (drop i w) ≡ (b || somewhere f (drop (i + 1) w))
-  some_at w i b h e = by (drop i w) (drop-cons w i 0 h) e
-    where
-      by : (s : List ℕ) → s ≡ get_or w i 0 ∷ drop (suc i) w → b ≡ f s → somewhere f s ≡ (b || somewhere f (drop (i + 1) w))
-      by s q e =
-          let n : i + 1 ≡ suc i = omega arith in
-          ap (somewhere f) q ∙ ap (λ (x : Bool). x || somewhere f (drop (suc i) w)) (sym (e ∙ ap f q)) ∙ ap (λ (k : ℕ). b || somewhere f (drop k w)) (sym n)
+  -- what is left of w from its place k on
+  any_from : (w v : List ℕ) (k : ℕ) → v ≡ drop k w → somewhere f v ≡ list_any (λ i. f (drop i w)) (range_with_len k (length v))
+  any_from w [] k e = refl
+  any_from w (b ∷ v) k e =
+      ap (λ (x : Bool). x || somewhere f v) (ap f e) ∙ ap (λ (x : Bool). f (drop k w) || x) (any_from w v (k + 1) (ap (drop 1) e ∙ drop-drop 1 k w))
 
-  pub some_end : (w : List ℕ) (i : ℕ) → length w ≤ i → somewhere f (drop i w) ≡ false
-  some_end w i h = ap (somewhere f) (drop_of_length-le w h)
+  pub somewhere_any : (w : List ℕ) → somewhere f w ≡ list_any (λ i. f (drop i w)) (range_with_len 0 (length w))
+  somewhere_any w = any_from w w 0 refl
 
 -- Marks. Each opens, whatever follows it.
 
@@ -115,6 +114,9 @@ not_contained t (b ∷ w) o n e =
 empty_shut : may_open [] ≡ false
 unfolding may_open
 empty_shut = refl
+
+pub shut_behind : (w : List ℕ) (i : ℕ) → length w ≤ i → may_open (drop i w) ≡ false
+shut_behind w i h = ap may_open (drop_of_length-le w h) ∙ empty_shut
 
 -- One turn of the search for one of several texts.
 

@@ -132,30 +132,21 @@ fn opens_mark(a: u8, b: u8, v: u8) -> bool
 }
 
 // Whether a mark can stand in the word from byte i on.
-#[tactic(auto, unfolding(crate::specs::Quick::may_open))]
+#[tactic(auto, using(crate::proofs::Ruled::shut_behind), unfolding(crate::specs::Quick::may_open))]
 pub(crate) fn may_open(word: &[u8], i: usize) -> bool
-    requires { i < length word.now }
     ensures { result ≡ may_open (drop i word.now) }
 {
-    word[i] == 0xE0
-        && opens_mark(
-            byte_at(word, i + 1),
-            byte_at(word, i + 2),
-            byte_at(word, i + 5),
-        )
+    let Some(s) = word.get(i..) else {
+        return false;
+    };
+    byte_at(s, 0) == 0xE0 && opens_mark(byte_at(s, 1), byte_at(s, 2), byte_at(s, 5))
 }
 
 // Whether a mark of Aagantuk or Tatsam words can stand in the word.
-#[tactic(auto, using(crate::proofs::Ruled::some_end), unfolding(crate::specs::Quick::may_mark))]
 pub(crate) fn may_mark(word: &[u8]) -> bool
     ensures { result ≡ may_mark word.now }
 {
-    for i in 0..word.len() {
-        if may_open(word, i) {
-            return true;
-        }
-    }
-    false
+    (0..word.len()).any(|i| may_open(word, i))
 }
 
 #[tactic(auto, unfolding(crate::specs::Quick::ends_strip))]

@@ -7,8 +7,8 @@ use mathlib.Core.Bool.{Bool, true, false}
 use mathlib.Core.List.{List, [], ◌∷◌, ◌++◌, append_assoc}
 use lib.ListN.{length, drop, get_or, drop_of_length-le}
 use lib.Seq.{drop-cons, drop-drop}
-use lib.Dec.{eqb, leb}
-use borrow.Author.Tests.{ne_eqb, leb-true, leb-false}
+use lib.Dec.{eqb}
+use borrow.Author.Tests.{ne_eqb}
 use Rattle.runs.specs.Runs.{pick}
 use Rattle.text.specs.Names.{forbidden, holds_forbidden}
 use Rattle.sheet.specs.Forms.{Entry, written, is_meant, is_form}

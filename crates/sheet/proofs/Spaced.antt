@@ -10,11 +10,12 @@ use lib.Dec.{eqb}
 use borrow.Author.Tests.{eq-eqb, ne_eqb}
 use Rattle.runs.specs.Bytes.{index_of, index_after}
 use Rattle.runs.specs.Runs.{cmp}
+use Rattle.std.specs.Ordering.{nat_cmp}
+use Rattle.std.specs.Cmp.{nat_cmp_is}
 use Rattle.std.specs.declared.cmp.Ordering.{Ordering}
 use Rattle.std.specs.declared.cmp.Ordering.TheVariants.{Less, Equal, Greater}
-use Rattle.std.specs.Ordering.{nat_cmp, MatchOrdering}
-use Rattle.std.specs.Cmp.{nat_cmp_is}
-use Rattle.runs.proofs.Ordered.{Stand, stand, step, step_less, step_greater, step_same, step_then, by_head, and_then}
+use Rattle.std.specs.Ordering.{MatchOrdering}
+use Rattle.runs.proofs.Ordered.{Stand, stand, below, above, alike, step, step_less, step_greater, step_same, step_then, by_head, and_then}
 use Rattle.sheet.specs.Forms.{is_form, key, key_of}
 use Rattle.sheet.specs.Lines.{line_at}
 use Rattle.sheet.specs.Keys.{spaced, headed}
@@ -48,6 +49,15 @@ spaced-drop (suc n) (x ∷ t) h = go (eqb x 0x20) h (spaced-drop n t)
     go true k rest = let z : ◌≡◌ {A = ℕ} 0 1 = omega arith in (cc)
     go false k rest = rest (omega arith)
 
+-- two bytes that differ
+step_differs : (x y : ℕ) (r : Ordering) → (x ≡ y → ⊥) → step x y r ≡ nat_cmp x y
+step_differs x y r d = go (stand x y)
+  where
+    go : Stand x y → step x y r ≡ nat_cmp x y
+    go (below h) = step_less x y r h ∙ nat_cmp_is x y Less h
+    go (above h) = step_greater x y r h ∙ nat_cmp_is x y Greater h
+    go (alike h) = absurd (d h)
+
 -- one look at the i-th bytes of a name and a head whose first i bytes are alike
 module _ (n p : List ℕ) (i : ℕ) where
   pub head_ended : i < length p → n ≡ [] → headed n (drop i p) ≡ Less
@@ -62,6 +72,9 @@ module _ (n p : List ℕ) (i : ℕ) where
   pub head_same : (x : ℕ) (m : List ℕ) → i < length p → n ≡ x ∷ m → x ≡ get_or p i 0 →
       headed n (drop i p) ≡ headed m (drop (suc i) p)
   head_same x m h e l = rw (drop-cons p i 0, e) (step_same _ _ _ l)
+
+  pub head_differs : (x : ℕ) (m : List ℕ) → i < length p → n ≡ x ∷ m → (x ≡ get_or p i 0 → ⊥) → headed n (drop i p) ≡ nat_cmp x (get_or p i 0)
+  head_differs x m h e d = rw (drop-cons p i 0, e) (step_differs x (get_or p i 0) _ d)
 
   pub head_all : length p ≤ i → headed n (drop i p) ≡ Equal
   head_all h = rw (drop_of_length-le p h)
@@ -90,6 +103,11 @@ pub first-leaves : (t p q : List ℕ) → headed (spaced t) p ≡ Equal → cmp 
 first-leaves t p q e =
     ap (λ (m : List ℕ). cmp m q) (sym (spaced-drop (length p) t (head-fits (spaced t) p e))) ∙ first_decides t p q _ Equal refl e
 
+pub not_equal : (o : Ordering) (r : Ordering) → (o ≡ Equal → ⊥) → and_then o r ≡ o
+not_equal Less r n = refl
+not_equal Greater r n = refl
+not_equal Equal r n = absurd (n refl)
+
 -- the same for a question of one part
 pub name_decides : (t q : List ℕ) (x o : Ordering) → x ≡ headed (spaced t) q → x ≡ o →
     and_then o (cmp (drop (length q) (spaced t)) []) ≡ cmp (spaced t) q
@@ -105,9 +123,9 @@ with_step : {P : Type 0} (x y : ℕ) (o r rest : Ordering) → o ≡ nat_cmp x y
 with_step x y o r rest e m f = go (stand x y)
   where
     go : Stand x y → r ≡ step x y rest
-    go (Stand.below h) = let k : o ≡ Less = e ∙ sym (nat_cmp_is x y Less h) in (rw k at m) ∙ sym (step_less x y rest h)
-    go (Stand.above h) = let k : o ≡ Greater = e ∙ sym (nat_cmp_is x y Greater h) in (rw k at m) ∙ sym (step_greater x y rest h)
-    go (Stand.alike h) = let k : o ≡ Equal = e ∙ sym (nat_cmp_is x y Equal h) in f (rw k at m) ∙ sym (step_same x y rest h)
+    go (below h) = let k : o ≡ Less = e ∙ sym (nat_cmp_is x y Less h) in (rw k at m) ∙ sym (step_less x y rest h)
+    go (above h) = let k : o ≡ Greater = e ∙ sym (nat_cmp_is x y Greater h) in (rw k at m) ∙ sym (step_greater x y rest h)
+    go (alike h) = let k : o ≡ Equal = e ∙ sym (nat_cmp_is x y Equal h) in f (rw k at m) ∙ sym (step_same x y rest h)
 
 -- a form's line stands to a question by its letter first, then by its name
 module _ (s : List ℕ) (at : ℕ) (h : is_form (drop at s) ≡ true) (letter : ℕ) (n : List ℕ) where

@@ -1,13 +1,12 @@
 -- A line's places in the sheet, and what the reader's step gives at them. The proofs of the step and of the sheet's check cite these.
 -- Assumes nothing.
-use Prim.Native.Nat.{ℕ, ◌+◌, ◌-◌, ◌<◌, ◌≤◌}
+use Prim.Native.Nat.{ℕ, ◌+◌, ◌-◌, ◌≤◌}
 use native.Mathlib.Omega.{arith}
 use mathlib.Core.Path.{◌≡◌, refl, sym, ap, subst, ◌∙◌}
 use mathlib.Core.Bool.{Bool, true, false}
 use mathlib.Core.List.{List}
 use lib.ListN.{length, take, drop, length-drop}
 use lib.Seq.{drop-drop}
-use borrow.Author.Tests.{le-leb, lt-leb}
 use Rattle.runs.specs.Runs.{pick, begins_with}
 use Rattle.text.specs.Names.{name_run}
 use Rattle.sheet.specs.Forms.{Entry, front, entry_of, is_form, is_name}

@@ -12,7 +12,7 @@ use Rattle.runs.specs.Runs.{pick, cmp, is_less}
 use Rattle.sheet.specs.Limits.{sheet_limit, shortest_line}
 use Rattle.sheet.specs.Forms.{is_form, key, key_of}
 use Rattle.sheet.specs.Lines.{fault_at, starts_from, line_at, judged, sheet_check}
-use Rattle.sheet.specs.Steps.{name_end, form_at, step_at}
+use Rattle.sheet.specs.Steps.{name_end, form_at}
 use Rattle.sheet.specs.declared.line.Cursor.{Cursor}
 use Rattle.sheet.specs.Walks.{key_before, Standing, starts_ahead, form_reached, reached}
 use Rattle.sheet.specs.declared.walk.Walk.{Walk}
@@ -22,7 +22,7 @@ use Rattle.sheet.specs.declared.walk.LineFault.TheVariants.{NoForm, NotAbove}
 use Rattle.sheet.specs.declared.check.SheetFault.{SheetFault}
 use Rattle.sheet.specs.declared.check.SheetFault.TheVariants.{TooLong, NotAbove as NotAboveAt, NoForm as NoFormAt}
 use Rattle.sheet.proofs.Forms.{line-fits, line_long, name-text}
-use Rattle.sheet.proofs.Lines.{no_lines, some-line, next_line, step_told}
+use Rattle.sheet.proofs.Lines.{no_lines, some-line, next_line}
 
 -- what is said of the lines from the walk's place on
 abbrev pub judged_ahead : List ℕ → Walk → Result (Unit {0}) SheetFault

@@ -13,22 +13,18 @@ use std::cmp::Ordering;
 pub(crate) fn along(t: &[u8], p: &[u8]) -> Ordering
     ensures { result ≡ headed (spaced t.now) p.now }
 {
-    for i in 0..p.len() {
-        if t.len() <= i {
+    let mut name = t;
+    for y in p {
+        let [b, rest @ ..] = name else {
+            return Ordering::Less;
+        };
+        if *b == b' ' {
             return Ordering::Less;
         }
-        let b = t[i];
-        let y = p[i];
-        if b == b' ' {
-            return Ordering::Less;
+        if b != y {
+            return b.cmp(y);
         }
-        if b == y {
-            continue;
-        }
-        if b < y {
-            return Ordering::Less;
-        }
-        return Ordering::Greater;
+        name = rest;
     }
     Ordering::Equal
 }
@@ -38,20 +34,13 @@ pub(crate) fn along(t: &[u8], p: &[u8]) -> Ordering
 fn name_order(t: &[u8], q: &[u8]) -> Ordering
     ensures { result ≡ cmp (spaced t.now) q.now }
 {
-    let o = along(t, q);
-    match o {
-        Ordering::Less => Ordering::Less,
-        Ordering::Greater => Ordering::Greater,
-        Ordering::Equal => {
-            let n = q.len();
-            if t.len() <= n {
-                return Ordering::Equal;
-            }
-            if t[n] == b' ' {
-                return Ordering::Equal;
-            }
-            Ordering::Greater
-        }
+    match along(t, q) {
+        Ordering::Equal => match t.get(q.len()) {
+            None => Ordering::Equal,
+            Some(b' ') => Ordering::Equal,
+            Some(_) => Ordering::Greater,
+        },
+        unequal => unequal,
     }
 }
 
@@ -70,10 +59,8 @@ pub(crate) fn rest_order(t: &[u8], p: &[u8], q: &[u8]) -> Ordering
 pub(crate) fn parts_order(t: &[u8], p: &[u8], q: &[u8]) -> Ordering
     ensures { result ≡ cmp (spaced t.now) (p.now ++ q.now) }
 {
-    let o = along(t, p);
-    match o {
-        Ordering::Less => Ordering::Less,
-        Ordering::Greater => Ordering::Greater,
+    match along(t, p) {
         Ordering::Equal => rest_order(t, p, q),
+        unequal => unequal,
     }
 }

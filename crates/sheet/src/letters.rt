@@ -77,7 +77,8 @@ fn closes_at(v: &[u8], i: usize) -> bool
 }
 
 // Whether v is a good run of letters: each at most once and in its order, their needs met, nothing besides. Without h, w stands alone;
-// without p there is no e.
+// without p there is no e. It is a part of the check of every line, which a call makes a tenth longer.
+#[inline(always)]
 pub fn are_letters(v: &[u8]) -> bool
     ensures { result ≡ is_letters v.now }
 {

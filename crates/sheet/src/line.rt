@@ -40,7 +40,8 @@ fn is_link(name: &[u8]) -> bool
     ends_with(name, b"\xE0\xA4\xBF") || ends_with(name, b"\xE0\xA4\x87")
 }
 
-// Whether the value, a run that holds no forbidden byte, is what the first letter asks for.
+// Whether the value, a run that holds no forbidden byte, is what the first letter asks for. It is a part of the reader, as `are_letters` is.
+#[inline(always)]
 #[tactic(auto, unfolding(crate::specs::Forms::is_meant))]
 fn is_meant(letter: u8, name: &[u8], value: &[u8]) -> bool
     requires { holds_forbidden value.now ≡ false }

@@ -1,6 +1,7 @@
 -- `entry::put_line` meets its contract: the given line takes the place that was found for it. Assumes nothing.
 use Rattle.std.specs.Prelude.{Ok}
 use Rattle.std.proofs.lemmas.Result.{err_from_is_err_and}
+use mathlib.Core.Logic.{⊎_elim}
 use Prim.Native.Nat.{◌≤◌}
 use native.Mathlib.Omega.{arith}
 use mathlib.Core.Path.{subst}
@@ -9,7 +10,7 @@ use Rattle.corrected.specs.Answers.{opening_of}
 use Rattle.corrected.specs.Spans.{Opens}
 use Rattle.corrected.proofs.Answered.{short, inside, put_refused, put-none, put-over, put_done}
 use Rattle.corrected.proofs.entry.put_line.Goals as goal
-use Rattle.corrected.proofs.entry.put_line.Goals.{In_ok-span, then-buffer-size-via-then-buffer-size, then-buffer-size-via-else-buffer-size+then-size-gt-SHEET_BYTES}
+use Rattle.corrected.proofs.entry.put_line.Goals.{In_ok-span}
 
 told : (c : In_ok-span) → let a = c.args in
     Opens (opening_of a.buffer.now a.used a.line.now) (take a.used a.buffer.now) a.line.now (Ok c.in_ok-span.span)
@@ -34,17 +35,13 @@ overflow_add-size-2 c = omega (arith, (within (goal.at.overflow_add-size-2 c).In
 pub returns-then-buffer-size : goal.returns-then-buffer-size
 returns-then-buffer-size c =
     let t = told (goal.at.returns-then-buffer-size c).In_ok-span in
-    elim c.then-buffer-size.branch [
-      | then-buffer-size-via-then-buffer-size w ↦ put-none _ _ _ t.0 t.1 _ t.2 w.if-buffer-size.true
-      | then-buffer-size-via-else-buffer-size+then-size-gt-SHEET_BYTES w ↦ put-over _ _ _ t.0 t.1 _ t.2 w.if-buffer-size.false w.if-size-gt-SHEET_BYTES.true
-    ]
+    ⊎_elim (λ h. put-none _ _ _ t.0 t.1 _ t.2 h) (λ h. put-over _ _ _ t.0 t.1 _ t.2 h.0 h.1) c.then-buffer-size.either
 
 pub replace-requires : goal.replace-requires
 replace-requires c =
     let k = (told (goal.at.replace-requires c).In_ok-span).2.ordered in
     let i = within (goal.at.replace-requires c).In_ok-span in
-    let r = c.if-buffer-size.false in
-    (omega (arith, k), omega (arith, k, i.0), i.1, omega (arith, k, r))
+    (omega (arith, k), omega (arith, k, i.0), i.1, omega (arith, k))
 
 pub returns-in_err-span : goal.returns-in_err-span
 returns-in_err-span c =
@@ -55,4 +52,4 @@ returns-in_err-span c =
 pub returns : goal.returns
 returns c =
     let t = told (goal.at.returns c).In_ok-span in
-    put_done _ _ _ t.0 t.1 _ t.2 c.if-buffer-size.false c.if-size-gt-SHEET_BYTES.false _ c.replace.ensures
+    put_done _ _ _ t.0 t.1 _ t.2 (omega arith) (omega arith) _ c.replace.ensures

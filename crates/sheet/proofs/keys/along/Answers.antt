@@ -1,39 +1,35 @@
 -- `keys::along` meets its contract: what is left of the name stands to what is left of the head as the name does to the head.
 -- Assumes nothing.
-use mathlib.Core.Path.{sym, ◌∙◌}
-use Rattle.std.proofs.Math.Arith.{lt_of_le-ne}
+use mathlib.Core.Path.{sym, ap, ◌∙◌}
+use mathlib.Core.List.{List}
 use native.Mathlib.Numerals.{add-one}
 use native.Mathlib.Omega.{arith}
-use Rattle.sheet.proofs.Spaced.{spaced-past, spaced-none, spaced-cons, head_ended, head_less, head_greater, head_same}
+use Prim.Native.Nat.{ℕ, suc}
+use lib.ListN.{drop}
+use Rattle.std.proofs.lemmas.List.{take_rest}
+use Rattle.sheet.specs.Keys.{spaced, headed}
+use Rattle.sheet.proofs.Spaced.{spaced-past, spaced-none, spaced-cons, head_ended, head_differs, head_same}
 use Rattle.sheet.proofs.keys.along.Goals as goal
 
-pub returns-then-t-i : goal.returns-then-t-i
-returns-then-t-i c =
-    let a = c.args in
-    let z = spaced-past a.t.now c.loop-i.i c.if-t-i.true in
-    sym (c.loop-i.invariant.1 ∙ head_ended _ a.p.now c.loop-i.i (omega arith) z)
+pub returns-in_default : goal.returns-in_default
+returns-in_default c =
+    let l = c.loop-y in
+    sym (l.invariant ∙ head_ended _ c.args.p.now l.y-index (omega arith) (spaced-past l.name.now 0 (omega (arith, c.in_default.len_below))))
 
 pub returns-then-b-eq32 : goal.returns-then-b-eq32
 returns-then-b-eq32 c =
-    let a = c.args in
-    let z = spaced-none a.t.now c.loop-i.i (omega arith) c.if-b-eq32.true in
-    sym (c.loop-i.invariant.1 ∙ head_ended _ a.p.now c.loop-i.i (omega arith) z)
+    let l = c.loop-y in
+    sym (l.invariant ∙ head_ended _ c.args.p.now l.y-index (omega arith) (spaced-none l.name.now 0 (omega (arith, c.in-len1-up.len_at_least)) c.if-b-eq32.true))
 
-pub loop-i-preserved : goal.loop-i-preserved
-loop-i-preserved c =
-    let a = c.args in
-    let z = spaced-cons a.t.now c.loop-i.i (omega arith) c.if-b-eq32.false in
-    let y = head_same _ a.p.now c.loop-i.i _ _ (omega arith) z c.if-b-y.true in
-    (omega arith, c.loop-i.invariant.1 ∙ y ∙ rw add-one)
+pub returns-then-b-y : goal.returns-then-b-y
+returns-then-b-y c =
+    let l = c.loop-y in
+    c.cmp.ensures
+    ∙ sym (l.invariant ∙ head_differs _ c.args.p.now l.y-index _ _ (omega arith) (spaced-cons l.name.now 0 (omega (arith, c.in-len1-up.len_at_least)) c.if-b-eq32.false) c.if-b-y.true)
 
-pub returns-then-b-y-2 : goal.returns-then-b-y-2
-returns-then-b-y-2 c =
-    let a = c.args in
-    let z = spaced-cons a.t.now c.loop-i.i (omega arith) c.if-b-eq32.false in
-    sym (c.loop-i.invariant.1 ∙ head_less _ a.p.now c.loop-i.i _ _ (omega arith) z c.if-b-y-2.true)
-
-pub returns-in-loop-i : goal.returns-in-loop-i
-returns-in-loop-i c =
-    let a = c.args in
-    let z = spaced-cons a.t.now c.loop-i.i (omega arith) c.if-b-eq32.false in
-    sym (c.loop-i.invariant.1 ∙ head_greater _ a.p.now c.loop-i.i _ _ (omega arith) z (lt_of_le-ne c.if-b-y-2.false (λ e. c.if-b-y.false (sym e))))
+pub loop-y-preserved : goal.loop-y-preserved
+loop-y-preserved c =
+    let l = c.loop-y in
+    let p = c.args.p.now in
+    let h = head_same _ p l.y-index _ _ (omega arith) (spaced-cons l.name.now 0 (omega (arith, c.in-len1-up.len_at_least)) c.if-b-eq32.false) c.if-b-y.false in
+    l.invariant ∙ h ∙ ap (λ (n : List ℕ). headed (spaced n) (drop (suc l.y-index) p)) (sym (take_rest l.name.now 1)) ∙ rw add-one
