@@ -14,21 +14,18 @@ use Rattle.tables.specs.Rows.{plural_markers, case_markers, particles}
 use Rattle.tables.specs.Tables.{affixes}
 use Rattle.tables.proofs.Tested.{every}
 use Rattle.sheet.specs.declared.letters.Letters.{Letters}
-use Rattle.sheet.specs.Replies.{Ask, Reply, letters_told}
-use Rattle.paths.specs.Support.{is_known, known_with}
+use Rattle.std.proofs.Common.{Bor, map}
+use Rattle.std.specs.List.{list_any}
+use Rattle.sheet.specs.Letters.{is_known as known_by}
+use Rattle.sheet.specs.Replies.{Ask, Reply, reply, letters_told, letters_for}
+use Rattle.paths.specs.Support.{known_with}
 
-module _ (ask : Ask) (name : List ℕ) (ts : List (List ℕ)) (k : ℕ) where
-  pub known_here : k < length ts → is_known ask (name ++ get_or ts k []) ≡ true → known_with ask name (drop k ts) ≡ true
-  unfolding known_with
-  known_here h e = rw (drop-cons ts k [] h, e)
-
-  pub known_next : k < length ts → is_known ask (name ++ get_or ts k []) ≡ false → known_with ask name (drop k ts) ≡ known_with ask name (drop (k + 1) ts)
-  unfolding known_with
-  known_next h e = rw (add-one, drop-cons ts k [] h, e)
-
-  pub known_end : length ts ≤ k → known_with ask name (drop k ts) ≡ false
-  unfolding known_with
-  known_end h = rw (drop_of_length-le ts h)
+-- a name with each of the texts that are lent
+pub known_any : (s name : List ℕ) (rows : List (Bor (List ℕ))) → list_any (λ (t : Bor (List ℕ)). known_by (letters_for s (name ++ t.now))) rows
+    ≡ known_with (reply s) name (map (λ (t : Bor (List ℕ)). t.now) rows)
+unfolding known_with letters_for
+known_any s name [] = refl
+known_any s name (t ∷ rows) = ap (λ (b : Bool). known_by (letters_for s (name ++ t.now)) || b) (known_any s name rows)
 
 -- nothing is known where no question that begins with the name has a reply
 pub none_known : (ask : Ask) (name : List ℕ) (ts : List (List ℕ)) → ((q : List ℕ) → ask 0x77 (name ++ q) ≡ Reply.unknown) → known_with ask name ts ≡ false

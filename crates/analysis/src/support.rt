@@ -1,17 +1,17 @@
 // Which roots are supported, and how a reading scores.
-ghost use Rattle.std.specs.Prelude.{◌≡◌, ◌++◌, ◌≤◌};
+ghost use Rattle.std.specs.Prelude.{◌≡◌, ◌≤◌};
 ghost use Rattle.lookup.specs.Lexicons.{replies};
-ghost use Rattle.lookup.specs.Begins.{Begun};
 ghost use Rattle.progressive.specs.Progressive.{is_progressive};
-ghost use Rattle.paths.specs.Support.{is_known, has_sibling};
+ghost use Rattle.paths.specs.Support.{has_sibling};
 ghost use Rattle.paths.specs.Chains.{most_strips, most_prefixes};
 ghost use Rattle.analysis.specs.Supports.{is_alone, support_of, score_from, supports};
 
 use lookup::begins::Range;
 use lookup::lexicon::Lexicon;
+use lookup::names::Names;
 use ranking::scores::score_for;
 use sheet::letters::Letters;
-use tables::affix;
+use tables::affix_rows;
 
 // What the sheet says of a root: known by w, by h, an appended form known, a supported progressive form.
 #[derive(Clone, Copy)]
@@ -22,25 +22,13 @@ pub struct Support {
     pub progressive: bool,
 }
 
-// Whether the sheet knows the name that p and then q make, by w or by h. The lines whose names begin with p are known.
-pub(crate) fn is_known(sheet: &Lexicon<'_>, range: Range, p: &[u8], q: &[u8]) -> bool
-    requires { Begun sheet.now.bytes.now sheet.now.starts.now 0x77 p.now range }
-    ensures { result ≡ is_known (replies sheet.now) (p.now ++ q.now) }
+// Whether the sheet knows the head of these names with one of the 25 texts appended.
+fn has_sibling(names: &Names<'_>) -> bool
+    ensures { result ≡ has_sibling (replies names.now.sheet.now) names.now.head.now }
 {
-    sheet.letters_in(range, p, q).is_known()
-}
-
-// Whether the sheet knows the piece with one of the 25 texts appended. The lines whose names begin with the piece are known.
-pub(crate) fn has_sibling(sheet: &Lexicon<'_>, range: Range, piece: &[u8]) -> bool
-    requires { Begun sheet.now.bytes.now sheet.now.starts.now 0x77 piece.now range }
-    ensures { result ≡ has_sibling (replies sheet.now) piece.now }
-{
-    for k in 0..25 {
-        if is_known(sheet, range, piece, affix(k)) {
-            return true;
-        }
-    }
-    false
+    affix_rows()
+        .iter()
+        .any(|text| names.letters_of(text.as_bytes()).is_known())
 }
 
 // The score of a reading whose root has this support: the surface has so many characters, and so many affixes are stripped.
@@ -63,7 +51,7 @@ fn is_alone(range: Range, letters: Letters) -> bool
     requires { range.lo ≤ range.hi }
     ensures { result ≡ is_alone range letters }
 {
-    range.hi - range.lo <= 1 && (letters.word || letters.head)
+    range.hi - range.lo <= 1 && letters.is_known()
 }
 
 // What the sheet says of a root; whether it is a supported progressive form is known already. Where no name begins with the root,
@@ -81,7 +69,12 @@ pub(crate) fn support_of(sheet: &Lexicon<'_>, root: &[u8], progressive: bool) ->
             progressive,
         };
     }
-    let letters = sheet.letters_in(range, root, b"");
+    let names = Names {
+        sheet,
+        head: root,
+        range,
+    };
+    let letters = names.letters_of(b"");
     if is_alone(range, letters) {
         return Support {
             word: letters.word,
@@ -90,7 +83,7 @@ pub(crate) fn support_of(sheet: &Lexicon<'_>, root: &[u8], progressive: bool) ->
             progressive,
         };
     }
-    let sibling = has_sibling(sheet, range, root);
+    let sibling = has_sibling(&names);
     Support {
         word: letters.word,
         head: letters.head,

@@ -2,10 +2,8 @@
 // kind of a suffix, and the place of a name.
 ghost use Rattle.std.specs.Prelude.{◌≡◌, ◌++◌, Some};
 ghost use Rattle.sheet.specs.Replies.{letters_told, letters_for};
-ghost use Rattle.lookup.specs.Begins.{Begun};
 ghost use Rattle.lookup.specs.Answers.{value_spot, told_at, SpotIn, ValueOf, NameOf, kind_for};
 
-use crate::begins::Range;
 use crate::lexicon::Lexicon;
 use runs::same;
 use sheet::form::FormAt;
@@ -37,7 +35,7 @@ fn value_spot(line: &FormAt<'_>) -> Spot
 }
 
 // The letters of a line, none where there is no line.
-fn letters_at(line: Option<FormAt<'_>>) -> Letters
+pub(crate) fn letters_at(line: Option<FormAt<'_>>) -> Letters
     ensures { result ≡ letters_told (told_at line.entry) }
 {
     match line {
@@ -98,13 +96,5 @@ impl Lexicon<'_> {
         ensures { result ≡ letters_for self.now.bytes.now (p.now ++ q.now) }
     {
         letters_at(self.seek(b'w', p, q).found)
-    }
-
-    // The same, where the lines whose names begin with `p` are known: the name is sought among these.
-    pub fn letters_in(&self, range: Range, p: &[u8], q: &[u8]) -> Letters
-        requires { Begun self.now.bytes.now self.now.starts.now 0x77 p.now range }
-        ensures { result ≡ letters_for self.now.bytes.now (p.now ++ q.now) }
-    {
-        letters_at(self.seek_in(range, b'w', p, q))
     }
 }

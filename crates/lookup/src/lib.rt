@@ -6,5 +6,6 @@ pub mod asked;
 pub mod begins;
 pub mod lexicon;
 pub mod lines;
+pub mod names;
 pub mod search;
 pub mod starts;
