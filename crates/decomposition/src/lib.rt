@@ -17,6 +17,9 @@ pub mod entries;
 pub mod fronts;
 pub mod suffixes;
 
+// How many labels there is room for: as many as SUFFIXES has rows.
+pub const LABELS: usize = 24;
+
 // A word in parts. The root is the word's bytes from `start` up to `end`; `prefix` is the row of a label of PREFIX_FORMS, where there
 // is one, and the first `suffix_count` of `suffixes` are the rows of the labels of SUFFIXES in strip order; places that are not used
 // are 0.
@@ -26,7 +29,7 @@ pub struct Parts {
     pub end: u8,
     pub prefix: Option<u8>,
     pub suffix_count: u8,
-    pub suffixes: [u8; 24],
+    pub suffixes: [u8; LABELS],
 }
 
 impl Parts {
@@ -60,7 +63,7 @@ pub fn parts_at(front: Front, len: usize, labels: &[u8]) -> Parts
     requires { (front.from + len < 256) × (length labels.now ≤ label_limit) }
     ensures { result ≡ parts_at front len labels.now }
 {
-    let mut suffixes = [0u8; 24];
+    let mut suffixes = [0u8; LABELS];
     suffixes[..labels.len()].copy_from_slice(labels);
     Parts {
         start: front.from as u8,

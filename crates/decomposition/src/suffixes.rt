@@ -7,6 +7,7 @@ ghost use Rattle.decomposition.specs.Strips.{is_word, label_row, is_kept, open_r
 ghost use Rattle.decomposition.specs.Parts.{whole_stage};
 ghost use Rattle.decomposition.specs.Places.{stage_of, Held, FirstLeft, stripped_of};
 
+use crate::LABELS;
 use arrayvec::ArrayVec;
 use lookup::lexicon::Lexicon;
 use strips::suffix::{Rests, bars, suffix_rests};
@@ -16,7 +17,7 @@ use tables::suffix_rows;
 #[derive(Drop)]
 pub struct Stripped {
     pub len: usize,
-    pub labels: ArrayVec<u8, 24>,
+    pub labels: ArrayVec<u8, LABELS>,
 }
 
 // The row of a suffix's label: ी is labelled ई.
