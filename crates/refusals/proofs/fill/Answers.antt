@@ -1,5 +1,5 @@
 -- `fill` meets its contract: what was made of the rows so far stands before what the list held. Assumes nothing.
-use Rattle.std.proofs.Common.{arith, ap, ◌∙◌, ◌≡◌}
+use Rattle.std.proofs.Common.{arith, ap, ◌∙◌}
 use Rattle.refusals.proofs.Outputs.{filled_turn}
 use Rattle.refusals.proofs.fill.Goals as goal
 
