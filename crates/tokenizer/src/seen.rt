@@ -21,8 +21,8 @@ fn size_of(s: &[u8]) -> Option<usize>
     ensures bound { IfSome result (λ n. (0 < n) × (n ≤ length s.now)) }
 {
     let mut state = State::Nothing;
-    for k in 0..s.len() {
-        state = next(state, s[k]);
+    for (k, b) in s.iter().enumerate() {
+        state = next(state, *b);
         if is_whole(state) {
             return Some(k + 1);
         }
