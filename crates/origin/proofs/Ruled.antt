@@ -115,8 +115,11 @@ empty_shut : may_open [] ≡ false
 unfolding may_open
 empty_shut = refl
 
-pub shut_behind : (w : List ℕ) (i : ℕ) → length w ≤ i → may_open (drop i w) ≡ false
-shut_behind w i h = ap may_open (drop_of_length-le w h) ∙ empty_shut
+-- where a byte is not 0, it is one of the word's
+pub byte_inside : (w : List ℕ) (i : ℕ) → get_or w i 0 ≡ 0xE0 → i < length w
+byte_inside [] i e = absurd (omega arith)
+byte_inside (b ∷ w) zero e = omega arith
+byte_inside (b ∷ w) (suc i) e = let h = byte_inside w i e in omega arith
 
 -- One turn of the search for one of several texts.
 

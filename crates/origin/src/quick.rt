@@ -132,14 +132,16 @@ fn opens_mark(a: u8, b: u8, v: u8) -> bool
 }
 
 // Whether a mark can stand in the word from byte i on.
-#[tactic(auto, using(crate::proofs::Ruled::shut_behind), unfolding(crate::specs::Quick::may_open))]
+#[tactic(auto, using(crate::proofs::Ruled::byte_inside), unfolding(crate::specs::Quick::may_open))]
 pub(crate) fn may_open(word: &[u8], i: usize) -> bool
     ensures { result ≡ may_open (drop i word.now) }
 {
-    let Some(s) = word.get(i..) else {
-        return false;
-    };
-    byte_at(s, 0) == 0xE0 && opens_mark(byte_at(s, 1), byte_at(s, 2), byte_at(s, 5))
+    byte_at(word, i) == 0xE0
+        && opens_mark(
+            byte_at(word, i + 1),
+            byte_at(word, i + 2),
+            byte_at(word, i + 5),
+        )
 }
 
 // Whether a mark of Aagantuk or Tatsam words can stand in the word.
