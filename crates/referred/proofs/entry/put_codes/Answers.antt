@@ -1,5 +1,5 @@
 -- `entry::put_codes` meets its contract: what is made of each finding is its code. Assumes nothing.
-use Rattle.std.proofs.Common.{rules, ap, sym, ◌∙◌, ◌≡◌, length}
+use Rattle.std.proofs.Common.{rules, ap, sym, ◌∙◌, length}
 use Rattle.refusals.specs.Refusals.{room_for}
 use Rattle.referred.specs.Codes.{code_of}
 use Rattle.referred.proofs.Found.{codes_length}

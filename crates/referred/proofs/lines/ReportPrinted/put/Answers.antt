@@ -1,5 +1,5 @@
 -- The report meets its contract: a form stands where each finding says. Assumes nothing.
-use Rattle.std.proofs.Common.{arith, ◌≡◌, ap, subst, sym, rules}
+use Rattle.std.proofs.Common.{arith, subst, sym}
 use Rattle.std.proofs.lemmas.Grind.{common_steps}
 use Rattle.referred.specs.Report.{report_text}
 use Rattle.referred.proofs.Found.{FormsAt, forms_found, lines_end}
