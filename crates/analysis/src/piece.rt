@@ -3,6 +3,7 @@ ghost use Rattle.std.specs.Prelude.{◌≡◌, ◌≤◌, length, take};
 ghost use Rattle.lookup.specs.Lexicons.{replies};
 ghost use Rattle.progressive.specs.Progressive.{is_progressive};
 ghost use Rattle.paths.specs.Chains.{all_rows, most_strips};
+ghost use Rattle.analysis.specs.Places.{between};
 
 use lookup::asked::Asked;
 use paths::Chain;
@@ -22,4 +23,14 @@ pub(crate) struct Piece<'a> {
     ghost table: { rows ≤ all_rows },
     ghost twice: { times ≤ 2 },
     ghost told: { progressive ≡ is_progressive (replies asked.now.sheet.now) (take end asked.now.word.now) },
+}
+
+// What prefixes leave of a piece: what stands in it from byte `start` of the word on, and whether that is a supported progressive form.
+#[derive(Clone, Copy)]
+pub(crate) struct Root<'a> {
+    pub at: &'a Piece<'a>,
+    pub start: usize,
+    pub progressive: bool,
+    ghost inside: { start ≤ at.now.end },
+    ghost told: { progressive ≡ is_progressive (replies at.now.asked.now.sheet.now) (between at.now.asked.now.word.now start at.now.end) },
 }

@@ -1,5 +1,5 @@
 // The readings of a stem: taken for the root itself, then with one prefix stripped, and two.
-ghost use Rattle.std.specs.Prelude.{◌≡◌, [], ◌∷◌, ◌≤◌, take};
+ghost use Rattle.std.specs.Prelude.{◌≡◌, [], ◌∷◌, take};
 ghost use Rattle.runs.specs.Runs.{begins_with};
 ghost use Rattle.tables.specs.Rows.{prefix_forms};
 ghost use Rattle.lookup.specs.Lexicons.{replies};
@@ -11,7 +11,7 @@ ghost use Rattle.strips.specs.Prefix.{prefix_remainder};
 ghost use Rattle.analysis.specs.Places.{between};
 
 use crate::fronts::may_begin;
-use crate::piece::Piece;
+use crate::piece::{Piece, Root};
 use crate::roots::with_root;
 use paths::{FORMS, Prefixes};
 use progressive::find::has_supported_progressive_form;
@@ -20,60 +20,63 @@ use runs::begins_with;
 use strips::prefix::prefix_rest;
 use tables::prefix_form;
 
-// Whether what stands in the piece from byte `from` of the word on begins with the form of row k. Most do not, and then nothing more is
-// asked.
-fn begins(at: &Piece<'_>, from: usize, k: u8) -> bool
-    requires { from ≤ at.now.end }
-    ensures { result ≡ begins_with (form_of k) (between at.now.asked.now.word.now from at.now.end) }
+// Whether a text begins with the form of row k. Most do not, and then nothing more is asked.
+fn begins(text: &[u8], k: u8) -> bool
+    ensures { result ≡ begins_with (form_of k) text.now }
 {
-    begins_with(&at.asked.word[from..at.end], prefix_form(usize::from(k)))
+    begins_with(text, prefix_form(usize::from(k)))
 }
 
-// One row for the second prefix, behind the first, which ends at byte `from` of the word. Each function of this walk gives how many
-// entries of the source's prefix walk it counted.
-fn second_row(at: &Piece<'_>, from: usize, first: u8, second: u8, kept: &mut Kept) -> usize
-    requires { from ≤ at.now.end }
-    ensures { (kept.new ≡ plus_all at.now.asked.now.word.now kept.old
-        (on_left (root_walk (replies at.now.asked.now.sheet.now) at.now.asked.now.surface at.now.chain (take at.now.end at.now.asked.now.word.now) (first ∷ second ∷ []))
-        (prefix_remainder (between at.now.asked.now.word.now from at.now.end) (form_of second))))
-        × (result ≡ total (prefix_visits 0 (replies at.now.asked.now.sheet.now)) (prefix_remainder (between at.now.asked.now.word.now from at.now.end) (form_of second))) }
+// One row for the second prefix, behind the first. Each function of this walk gives how many entries of the source's prefix walk it
+// counted.
+fn second_row(behind: &Root<'_>, first: u8, second: u8, kept: &mut Kept) -> usize
+    ensures { (kept.new ≡ plus_all behind.now.at.now.asked.now.word.now kept.old
+        (on_left (root_walk (replies behind.now.at.now.asked.now.sheet.now) behind.now.at.now.asked.now.surface behind.now.at.now.chain (take behind.now.at.now.end behind.now.at.now.asked.now.word.now) (first ∷ second ∷ []))
+        (prefix_remainder (between behind.now.at.now.asked.now.word.now behind.now.start behind.now.at.now.end) (form_of second))))
+        × (result ≡ total (prefix_visits 0 (replies behind.now.at.now.asked.now.sheet.now)) (prefix_remainder (between behind.now.at.now.asked.now.word.now behind.now.start behind.now.at.now.end) (form_of second))) }
 {
+    let at = behind.at;
     let rest = prefix_rest(
-        &at.asked.word[from..at.end],
+        &at.asked.word[behind.start..at.end],
         prefix_form(usize::from(second)),
     );
     match rest {
         None => 0,
         Some(cut) => {
-            let root = from + cut;
+            let start = behind.start + cut;
             let progressive = has_supported_progressive_form(
                 at.asked.sheet,
-                &at.asked.word[root..at.end],
+                &at.asked.word[start..at.end],
             );
+            let root = Root {
+                at,
+                start,
+                progressive,
+            };
             let prefixes = Prefixes {
                 rows: [first, second],
                 count: 2,
             };
-            with_root(at, root, prefixes, progressive, kept);
+            with_root(&root, prefixes, kept);
             1
         }
     }
 }
 
 // All rows for the second prefix, behind the first.
-fn second_rows(at: &Piece<'_>, from: usize, first: u8, kept: &mut Kept) -> usize
-    requires { from ≤ at.now.end }
-    ensures { (kept.new ≡ plus_all at.now.asked.now.word.now kept.old
-        (over_forms (λ second left. root_walk (replies at.now.asked.now.sheet.now) at.now.asked.now.surface at.now.chain (take at.now.end at.now.asked.now.word.now) (first ∷ second ∷ []) left)
-        (between at.now.asked.now.word.now from at.now.end) 0 all_forms))
-        × (result ≡ total (λ form. total (prefix_visits 0 (replies at.now.asked.now.sheet.now)) (prefix_remainder (between at.now.asked.now.word.now from at.now.end) form)) prefix_forms) }
+fn second_rows(behind: &Root<'_>, first: u8, kept: &mut Kept) -> usize
+    ensures { (kept.new ≡ plus_all behind.now.at.now.asked.now.word.now kept.old
+        (over_forms (λ second left. root_walk (replies behind.now.at.now.asked.now.sheet.now) behind.now.at.now.asked.now.surface behind.now.at.now.chain (take behind.now.at.now.end behind.now.at.now.asked.now.word.now) (first ∷ second ∷ []) left)
+        (between behind.now.at.now.asked.now.word.now behind.now.start behind.now.at.now.end) 0 all_forms))
+        × (result ≡ total (λ form. total (prefix_visits 0 (replies behind.now.at.now.asked.now.sheet.now)) (prefix_remainder (between behind.now.at.now.asked.now.word.now behind.now.start behind.now.at.now.end) form)) prefix_forms) }
 {
+    let text = &behind.at.asked.word[behind.start..behind.at.end];
     let mut v: usize = 0;
     for k in 0..FORMS {
-        if !begins(at, from, k) {
+        if !begins(text, k) {
             continue;
         }
-        v += second_row(at, from, first, k, kept);
+        v += second_row(behind, first, k, kept);
     }
     v
 }
@@ -88,23 +91,28 @@ fn first_row(at: &Piece<'_>, first: u8, kept: &mut Kept) -> usize
     let rest = prefix_rest(&at.asked.word[..at.end], prefix_form(usize::from(first)));
     match rest {
         None => 0,
-        Some(root) => {
+        Some(start) => {
             let progressive = has_supported_progressive_form(
                 at.asked.sheet,
-                &at.asked.word[root..at.end],
+                &at.asked.word[start..at.end],
             );
+            let root = Root {
+                at,
+                start,
+                progressive,
+            };
             let prefixes = Prefixes {
                 rows: [first, 0],
                 count: 1,
             };
-            with_root(at, root, prefixes, progressive, kept);
+            with_root(&root, prefixes, kept);
             if progressive {
                 return 1;
             }
-            if !may_begin(&at.asked.word[root..at.end]) {
+            if !may_begin(&at.asked.word[start..at.end]) {
                 return 1;
             }
-            1 + second_rows(at, root, first, kept)
+            1 + second_rows(&root, first, kept)
         }
     }
 }
@@ -115,9 +123,10 @@ fn first_rows(at: &Piece<'_>, kept: &mut Kept) -> usize
         (over_forms (second_walk (replies at.now.asked.now.sheet.now) at.now.asked.now.surface at.now.chain (take at.now.end at.now.asked.now.word.now)) (take at.now.end at.now.asked.now.word.now) 0 all_forms))
         × (result ≡ total (λ form. total (prefix_visits 1 (replies at.now.asked.now.sheet.now)) (prefix_remainder (take at.now.end at.now.asked.now.word.now) form)) prefix_forms) }
 {
+    let text = &at.asked.word[..at.end];
     let mut v: usize = 0;
     for k in 0..FORMS {
-        if !begins(at, 0, k) {
+        if !begins(text, k) {
             continue;
         }
         v += first_row(at, k, kept);
@@ -130,11 +139,16 @@ pub(crate) fn with_stem(at: &Piece<'_>, kept: &mut Kept) -> usize
     ensures { (kept.new ≡ plus_all at.now.asked.now.word.now kept.old (stem_walk (replies at.now.asked.now.sheet.now) at.now.asked.now.surface at.now.chain (take at.now.end at.now.asked.now.word.now)))
         × (result ≡ prefix_visits 2 (replies at.now.asked.now.sheet.now) (take at.now.end at.now.asked.now.word.now)) }
 {
+    let whole = Root {
+        at,
+        start: 0,
+        progressive: at.progressive,
+    };
     let prefixes = Prefixes {
         rows: [0, 0],
         count: 0,
     };
-    with_root(at, 0, prefixes, at.progressive, kept);
+    with_root(&whole, prefixes, kept);
     if at.progressive {
         return 1;
     }

@@ -1,32 +1,25 @@
 // A reading for a stem and a root, where the root is supported.
 ghost use Rattle.std.specs.Prelude.{◌≡◌, ◌≤◌};
 ghost use Rattle.lookup.specs.Lexicons.{replies};
-ghost use Rattle.progressive.specs.Progressive.{is_progressive};
 ghost use Rattle.ranking.specs.Lists.{plus_all};
 ghost use Rattle.paths.specs.Chains.{most_prefixes};
-ghost use Rattle.analysis.specs.Places.{between, root_found};
+ghost use Rattle.analysis.specs.Places.{root_found};
 
-use crate::piece::Piece;
+use crate::piece::Root;
 use crate::support::{Support, is_supported, score, support_of};
 use paths::Prefixes;
 use ranking::Reading;
 use ranking::kept::Kept;
 
-// Keeps the reading of a root where it is supported. The stem is the piece that the walk is at, the root begins at byte `root` of the word.
-pub(crate) fn with_root(
-    at: &Piece<'_>,
-    root: usize,
-    prefixes: Prefixes,
-    progressive: bool,
-    kept: &mut Kept,
-)
-    requires { (root ≤ at.now.end) × (prefixes.count ≤ most_prefixes)
-        × (progressive ≡ is_progressive (replies at.now.asked.now.sheet.now) (between at.now.asked.now.word.now root at.now.end)) }
-    ensures { kept.new ≡ plus_all at.now.asked.now.word.now kept.old
-        (root_found (replies at.now.asked.now.sheet.now) at.now.asked.now.surface at.now.chain at.now.asked.now.word.now at.now.end root prefixes) }
+// Keeps the reading of a root where it is supported. The stem is the piece that the walk is at.
+pub(crate) fn with_root(root: &Root<'_>, prefixes: Prefixes, kept: &mut Kept)
+    requires { prefixes.count ≤ most_prefixes }
+    ensures { kept.new ≡ plus_all root.now.at.now.asked.now.word.now kept.old
+        (root_found (replies root.now.at.now.asked.now.sheet.now) root.now.at.now.asked.now.surface root.now.at.now.chain root.now.at.now.asked.now.word.now root.now.at.now.end root.now.start prefixes) }
 {
-    let text = &at.asked.word[root..at.end];
-    let s = support_of(at.asked.sheet, text, progressive);
+    let at = root.at;
+    let text = &at.asked.word[root.start..at.end];
+    let s = support_of(at.asked.sheet, text, root.progressive);
     if !is_supported(s, text.len()) {
         return;
     }
@@ -35,7 +28,7 @@ pub(crate) fn with_root(
     let rows = prefixes.rows;
     let reading = Reading {
         stem: at.end as u16,
-        root: root as u16,
+        root: root.start as u16,
         score: score(at.asked.surface, s, prefixes.count, chain.count),
         prefixes: rows,
         segments,

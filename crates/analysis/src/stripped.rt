@@ -1,7 +1,6 @@
 // What a strip leaves of a piece that the walk is at.
 ghost use Rattle.std.specs.Prelude.{◌≡◌, ◌≤◌, ◌<◌};
 ghost use Rattle.paths.specs.Chains.{most_strips, rows_after};
-ghost use Rattle.paths.specs.Walk.{pushed_of};
 ghost use Rattle.paths.specs.Weighed.{times_after};
 ghost use Rattle.analysis.specs.Pieces.{Stripped};
 
@@ -30,20 +29,8 @@ fn times_after(times: u8, k: u8) -> u8
     }
 }
 
-// One suffix more, nearest the stem.
-fn pushed(c: Chain, s: Segment) -> Chain
-    requires { c.count < most_strips }
-    ensures { result ≡ pushed_of c s }
-{
-    let [x, y, z, _] = c.segments;
-    Chain {
-        segments: [s, x, y, z],
-        count: c.count + 1,
-    }
-}
-
 impl<'a> Piece<'a> {
-    // What a strip of row k, of this kind, leaves: the word's first `end` bytes.
+    // What a strip of row k, of this kind, leaves: the word's first `end` bytes, with one suffix more, nearest the stem.
     pub(crate) fn stripped(&self, end: usize, k: u8, kind: AffixKind, shared: bool) -> Piece<'a>
         requires { (end ≤ self.now.end) × (self.now.chain.count < most_strips) }
         ensures { Stripped self.now end (record { label = k; kind = kind; shared = shared }) result }
@@ -54,10 +41,15 @@ impl<'a> Piece<'a> {
             kind,
             shared,
         };
+        let [x, y, z, _] = self.chain.segments;
+        let chain = Chain {
+            segments: [segment, x, y, z],
+            count: self.chain.count + 1,
+        };
         Piece {
             asked: self.asked,
             end,
-            chain: pushed(self.chain, segment),
+            chain,
             rows: rows_after(k),
             times: times_after(self.times, k),
             progressive,

@@ -42,21 +42,6 @@ pub fn lexicon_of<'s>(sheet: &'s [u8], starts: &'s mut [Start]) -> Result<Lexico
     })
 }
 
-// What is asked of a sheet into `out`, with a list that has room for the starts of its lines.
-fn asked<T, R, F: FnOnce(&Lexicon<'_>, &mut [T]) -> R>(
-    sheet: &[u8],
-    starts: &mut [Start],
-    out: &mut [T],
-    ask: F,
-) -> Result<R, SheetFault>
-    requires room { Room sheet.now starts.old }
-    requires callable { F.IsAlwaysCallable ask }
-    ensures { MatchResult result (λ r. AskedInto sheet.now out.old out.new (λ l o n. F.post ask l o r n)) (λ fault. (sheet_check sheet.now ≡ Err fault) × (out.new ≡ out.old)) }
-{
-    let lexicon = lexicon_of(sheet, starts)?;
-    Ok(ask(&lexicon, out))
-}
-
 // What is asked of a sheet into a lent output: the answer where the sheet is accepted, else its fault, and then `out` is as it was. The
 // sheet is checked once, before it is asked. A list for the lines of any sheet is 13 KB to clear, which a small sheet is spared.
 pub fn with_lexicon_into<T, R, F: FnOnce(&Lexicon<'_>, &mut [T]) -> R>(
@@ -69,10 +54,12 @@ pub fn with_lexicon_into<T, R, F: FnOnce(&Lexicon<'_>, &mut [T]) -> R>(
 {
     if sheet.len() <= SMALL_BYTES {
         let mut few: [Start; FEW_STARTS] = [0; FEW_STARTS];
-        return asked(sheet, &mut few, out, ask);
+        let lexicon = lexicon_of(sheet, &mut few)?;
+        return Ok(ask(&lexicon, out));
     }
     let mut starts: [Start; ALL_STARTS] = [0; ALL_STARTS];
-    asked(sheet, &mut starts, out, ask)
+    let lexicon = lexicon_of(sheet, &mut starts)?;
+    Ok(ask(&lexicon, out))
 }
 
 // What is asked of a sheet: the answer where it is accepted, else its fault.

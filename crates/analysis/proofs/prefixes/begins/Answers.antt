@@ -3,11 +3,8 @@ use Prim.Native.Nat.{ℕ}
 use mathlib.Core.Path.{ap, ◌∙◌}
 use mathlib.Core.List.{List}
 use Rattle.runs.specs.Runs.{begins_with}
-use Rattle.analysis.specs.Places.{between}
 use Rattle.paths.specs.Chains.{form_of}
 use Rattle.analysis.proofs.prefixes.begins.Goals as goal
 
 pub returns : goal.returns
-returns c =
-    c.begins_with.ensures
-    ∙ ap (λ (t : List ℕ). begins_with t (between c.args.at.now.asked.now.word.now c.args.«from» c.args.at.now.end)) (c.prefix_form.ensures ∙ ap form_of c.from.ensures)
+returns c = c.begins_with.ensures ∙ ap (λ (t : List ℕ). begins_with t c.args.text.now) (c.prefix_form.ensures ∙ ap form_of c.from.ensures)

@@ -25,9 +25,9 @@ pub slice_bounds-prefix_rest-end : goal.slice_bounds-prefix_rest-end
 slice_bounds-prefix_rest-end c = sym (length-take-le c.args.at.now.end c.args.at.now.asked.now.word.now c.args.at.now.inside)
 
 -- the root begins inside the stem
-inside : (c : In-Some) → c.in-Some.root ≤ c.args.at.now.end
+inside : (c : In-Some) → c.in-Some.start ≤ c.args.at.now.end
 inside c =
-    let n = rest-inside (take c.args.at.now.end c.args.at.now.asked.now.word.now) (form_of c.args.first) c.in-Some.root (sym ((asked c.args.first (take c.args.at.now.end c.args.at.now.asked.now.word.now) _ _ c.prefix_rest-rest.ensures (c.prefix_form.ensures ∙ ap form_of c.from.ensures))) ∙ c.in-Some.is) in
+    let n = rest-inside (take c.args.at.now.end c.args.at.now.asked.now.word.now) (form_of c.args.first) c.in-Some.start (sym ((asked c.args.first (take c.args.at.now.end c.args.at.now.asked.now.word.now) _ _ c.prefix_rest-rest.ensures (c.prefix_form.ensures ∙ ap form_of c.from.ensures))) ∙ c.in-Some.is) in
     let l : length (take c.args.at.now.end c.args.at.now.asked.now.word.now) ≡ c.args.at.now.end = length-take-le c.args.at.now.end c.args.at.now.asked.now.word.now c.args.at.now.inside in
     omega (arith, n)
 
@@ -37,9 +37,11 @@ slice_bounds-has_supported_progressive_form-count c = inside (goal.at.slice_boun
 pub slice_bounds-has_supported_progressive_form-start : goal.slice_bounds-has_supported_progressive_form-start
 slice_bounds-has_supported_progressive_form-start c = omega (arith, inside (goal.at.slice_bounds-has_supported_progressive_form-start c).In-Some, c.args.at.now.inside)
 
-pub with_root-requires : goal.with_root-requires
-with_root-requires c =
-    (inside (goal.at.with_root-requires c).In-Some, omega arith, c.has_supported_progressive_form-progressive.ensures)
+pub invariant_of-root : goal.invariant_of-root
+invariant_of-root c = record {
+  inside = inside (goal.at.invariant_of-root c).In-Some;
+  told = c.has_supported_progressive_form-progressive.ensures;
+}
 
 pub returns-in-None : goal.returns-in-None
 unfolding plus_all
@@ -53,13 +55,13 @@ returns-in-None c =
 -- the prefix's own reading is kept, and the rest of the walk begins at what it leaves
 module _ (c : After-with_root) where
   abbrev rest : List ℕ
-  rest = between c.args.at.now.asked.now.word.now c.in-Some.root c.args.at.now.end
+  rest = between c.args.at.now.asked.now.word.now c.in-Some.start c.args.at.now.end
 
-  own : {x : Rows} → c.in-Some.root ≤ c.args.at.now.end → (let a = c.args in x ≡ plus_all a.at.now.asked.now.word.now a.kept.now (root_found (reply a.at.now.asked.now.sheet.now.bytes.now) a.at.now.asked.now.surface a.at.now.chain a.at.now.asked.now.word.now a.at.now.end c.in-Some.root (prefixes_of (a.first ∷ []))))
+  own : {x : Rows} → c.in-Some.start ≤ c.args.at.now.end → (let a = c.args in x ≡ plus_all a.at.now.asked.now.word.now a.kept.now (root_found (reply a.at.now.asked.now.sheet.now.bytes.now) a.at.now.asked.now.surface a.at.now.chain a.at.now.asked.now.word.now a.at.now.end c.in-Some.start (prefixes_of (a.first ∷ []))))
       → let a = c.args in x ≡ plus_all a.at.now.asked.now.word.now a.kept.now (root_walk (reply a.at.now.asked.now.sheet.now.bytes.now) a.at.now.asked.now.surface a.at.now.chain (take a.at.now.end a.at.now.asked.now.word.now) (a.first ∷ []) rest)
   own i e =
       let a = c in
-      e ∙ ap (plus_all a.args.at.now.asked.now.word.now a.args.kept.now) (root_at a.args.at.now.asked.now.word.now c.in-Some.root a.args.at.now.end (reply a.args.at.now.asked.now.sheet.now.bytes.now) a.args.at.now.asked.now.surface a.args.at.now.chain (a.args.first ∷ []) i a.args.at.now.inside)
+      e ∙ ap (plus_all a.args.at.now.asked.now.word.now a.args.kept.now) (root_at a.args.at.now.asked.now.word.now c.in-Some.start a.args.at.now.end (reply a.args.at.now.asked.now.sheet.now.bytes.now) a.args.at.now.asked.now.surface a.args.at.now.chain (a.args.first ∷ []) i a.args.at.now.inside)
 
   -- what is said of what the prefix leaves is said of the row
   whole : {x : Rows} → (let a = c.args in x ≡ plus_all a.at.now.asked.now.word.now a.kept.now (second_walk (reply a.at.now.asked.now.sheet.now.bytes.now) a.at.now.asked.now.surface a.at.now.chain (take a.at.now.end a.at.now.asked.now.word.now) a.first rest))
@@ -67,7 +69,7 @@ module _ (c : After-with_root) where
   whole e =
       let a = c.args in
       e ∙ sym (ap (λ (l : List (List ℕ)). plus_all a.at.now.asked.now.word.now a.kept.now (on_left (second_walk (reply a.at.now.asked.now.sheet.now.bytes.now) a.at.now.asked.now.surface a.at.now.chain (take a.at.now.end a.at.now.asked.now.word.now) a.first) l))
-      (front-left a.at.now.asked.now.word.now a.at.now.end (form_of a.first) c.in-Some.root (sym c.in-Some.is ∙ (asked c.args.first (take c.args.at.now.end c.args.at.now.asked.now.word.now) _ _ c.prefix_rest-rest.ensures (c.prefix_form.ensures ∙ ap form_of c.from.ensures)))))
+      (front-left a.at.now.asked.now.word.now a.at.now.end (form_of a.first) c.in-Some.start (sym c.in-Some.is ∙ (asked c.args.first (take c.args.at.now.end c.args.at.now.asked.now.word.now) _ _ c.prefix_rest-rest.ensures (c.prefix_form.ensures ∙ ap form_of c.from.ensures)))))
 
   -- and so is what is counted there
   counted : {v : ℕ} → v ≡ prefix_visits 1 (reply c.args.at.now.asked.now.sheet.now.bytes.now) rest
@@ -75,7 +77,7 @@ module _ (c : After-with_root) where
   counted {v} e =
       let a = c.args in
       left_one (prefix_visits 1 (reply a.at.now.asked.now.sheet.now.bytes.now)) (take a.at.now.end a.at.now.asked.now.word.now) (form_of a.first) rest v
-      (front-left a.at.now.asked.now.word.now a.at.now.end (form_of a.first) c.in-Some.root (sym c.in-Some.is ∙ (asked c.args.first (take c.args.at.now.end c.args.at.now.asked.now.word.now) _ _ c.prefix_rest-rest.ensures (c.prefix_form.ensures ∙ ap form_of c.from.ensures)))) e
+      (front-left a.at.now.asked.now.word.now a.at.now.end (form_of a.first) c.in-Some.start (sym c.in-Some.is ∙ (asked c.args.first (take c.args.at.now.end c.args.at.now.asked.now.word.now) _ _ c.prefix_rest-rest.ensures (c.prefix_form.ensures ∙ ap form_of c.from.ensures)))) e
 
 pub returns-then-progressive : goal.returns-then-progressive
 returns-then-progressive c =
@@ -99,10 +101,6 @@ returns-then-not-may_begin c =
           (λ f. no-forms f (rest (goal.at.returns-then-not-may_begin c).After-with_root) (sym c.may_begin.ensures ∙ c.if-not-may_begin.true) 0 all_forms (omega arith))),
       counted (goal.at.returns-then-not-may_begin c).After-with_root (prefix_bare 0 (reply a.at.now.asked.now.sheet.now.bytes.now) (rest (goal.at.returns-then-not-may_begin c).After-with_root) (sym c.may_begin.ensures ∙ c.if-not-may_begin.true)),
     )
-
-pub second_rows-requires : goal.second_rows-requires
-second_rows-requires c =
-    inside (goal.at.second_rows-requires c).In-Some
 
 pub overflow_add-result : goal.overflow_add-result
 overflow_add-result c =

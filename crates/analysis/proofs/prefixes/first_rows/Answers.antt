@@ -15,9 +15,6 @@ use Rattle.analysis.proofs.prefixes.first_rows.Goals as goal
 pub loop-k-init : goal.loop-k-init
 loop-k-init c = (omega arith, refl, omega arith)
 
-pub begins-requires : goal.begins-requires
-begins-requires c = omega arith
-
 -- the count stays small: it is at most that of all rows
 pub overflow_add-v : goal.overflow_add-v
 overflow_add-v c =
@@ -37,8 +34,8 @@ pub loop-k-preserved-then-not-begins : goal.loop-k-preserved-then-not-begins
 loop-k-preserved-then-not-begins c =
     let a = c.args in (
       omega (arith, c.loop-k-test.true),
-      c.loop-k.invariant.1 ∙ form_pass a.at.now.asked.now.word.now (each a.at.now.asked.now.word.now a.at.now.asked.now.sheet.now.bytes.now a.at.now.end a.at.now.chain a.at.now.asked.now.surface) (take a.at.now.end a.at.now.asked.now.word.now) c.loop-k.k all_forms c.loop-k.kept c.loop-k-test.true (ap (begins_with (form_of c.loop-k.k)) (sym (whole-front a.at.now.asked.now.word.now a.at.now.end)) ∙ sym c.begins.ensures ∙ c.if-not-begins.true),
-      visits_pass (prefix_visits 1 (reply a.at.now.asked.now.sheet.now.bytes.now)) (take a.at.now.end a.at.now.asked.now.word.now) c.loop-k.k c.loop-k.v c.loop-k-test.true c.loop-k.invariant.2 (ap (begins_with (form_of c.loop-k.k)) (sym (whole-front a.at.now.asked.now.word.now a.at.now.end)) ∙ sym c.begins.ensures ∙ c.if-not-begins.true),
+      c.loop-k.invariant.1 ∙ form_pass a.at.now.asked.now.word.now (each a.at.now.asked.now.word.now a.at.now.asked.now.sheet.now.bytes.now a.at.now.end a.at.now.chain a.at.now.asked.now.surface) (take a.at.now.end a.at.now.asked.now.word.now) c.loop-k.k all_forms c.loop-k.kept c.loop-k-test.true (sym c.begins.ensures ∙ c.if-not-begins.true),
+      visits_pass (prefix_visits 1 (reply a.at.now.asked.now.sheet.now.bytes.now)) (take a.at.now.end a.at.now.asked.now.word.now) c.loop-k.k c.loop-k.v c.loop-k-test.true c.loop-k.invariant.2 (sym c.begins.ensures ∙ c.if-not-begins.true),
     )
 
 pub returns : goal.returns

@@ -17,41 +17,43 @@ use Rattle.analysis.proofs.prefixes.second_row.Goals as goal
 use Rattle.analysis.proofs.prefixes.second_row.Goals.{In-Some}
 
 -- the root begins inside the stem
-inside : (c : In-Some) → c.args.«from» + c.in-Some.cut ≤ c.args.at.now.end
+inside : (c : In-Some) → c.args.behind.now.start + c.in-Some.cut ≤ c.args.behind.now.at.now.end
 inside c =
-    let n = rest-inside (between c.args.at.now.asked.now.word.now c.args.«from» c.args.at.now.end) (form_of c.args.second) c.in-Some.cut (sym ((asked c.args.second (between c.args.at.now.asked.now.word.now c.args.«from» c.args.at.now.end) _ _ c.prefix_rest-rest.ensures (c.prefix_form.ensures ∙ ap form_of c.from.ensures))) ∙ c.in-Some.is) in
-    let l : length (between c.args.at.now.asked.now.word.now c.args.«from» c.args.at.now.end) ≡ c.args.at.now.end - c.args.«from» = between-length c.args.at.now.asked.now.word.now c.args.«from» c.args.at.now.end c.requires c.args.at.now.inside in
-    omega (arith, n, c.requires)
+    let n = rest-inside (between c.args.behind.now.at.now.asked.now.word.now c.args.behind.now.start c.args.behind.now.at.now.end) (form_of c.args.second) c.in-Some.cut (sym ((asked c.args.second (between c.args.behind.now.at.now.asked.now.word.now c.args.behind.now.start c.args.behind.now.at.now.end) _ _ c.prefix_rest-rest.ensures (c.prefix_form.ensures ∙ ap form_of c.from.ensures))) ∙ c.in-Some.is) in
+    let l : length (between c.args.behind.now.at.now.asked.now.word.now c.args.behind.now.start c.args.behind.now.at.now.end) ≡ c.args.behind.now.at.now.end - c.args.behind.now.start = between-length c.args.behind.now.at.now.asked.now.word.now c.args.behind.now.start c.args.behind.now.at.now.end c.args.behind.now.inside c.args.behind.now.at.now.inside in
+    omega (arith, n, c.args.behind.now.inside)
 
-pub overflow_add-root : goal.overflow_add-root
-overflow_add-root c = omega (arith, inside (goal.at.overflow_add-root c).In-Some, c.args.at.now.inside)
+pub overflow_add-start : goal.overflow_add-start
+overflow_add-start c = omega (arith, inside (goal.at.overflow_add-start c).In-Some, c.args.behind.now.at.now.inside)
 
 pub slice_bounds-has_supported_progressive_form-count : goal.slice_bounds-has_supported_progressive_form-count
 slice_bounds-has_supported_progressive_form-count c = inside (goal.at.slice_bounds-has_supported_progressive_form-count c).In-Some
 
 pub slice_bounds-has_supported_progressive_form-start : goal.slice_bounds-has_supported_progressive_form-start
-slice_bounds-has_supported_progressive_form-start c = omega (arith, inside (goal.at.slice_bounds-has_supported_progressive_form-start c).In-Some, c.args.at.now.inside)
+slice_bounds-has_supported_progressive_form-start c = omega (arith, inside (goal.at.slice_bounds-has_supported_progressive_form-start c).In-Some, c.args.behind.now.at.now.inside)
 
-pub with_root-requires : goal.with_root-requires
-with_root-requires c =
-    (inside (goal.at.with_root-requires c).In-Some, omega arith, c.has_supported_progressive_form-progressive.ensures)
+pub invariant_of-root : goal.invariant_of-root
+invariant_of-root c = record {
+  inside = inside (goal.at.invariant_of-root c).In-Some;
+  told = c.has_supported_progressive_form-progressive.ensures;
+}
 
 pub returns-in-None : goal.returns-in-None
 unfolding plus_all
 returns-in-None c =
     let a = c.args in (
-      sym (ap (λ (l : List (List ℕ)). plus_all a.at.now.asked.now.word.now a.kept.now (on_left (root_walk (reply a.at.now.asked.now.sheet.now.bytes.now) a.at.now.asked.now.surface a.at.now.chain (take a.at.now.end a.at.now.asked.now.word.now) (a.first ∷ a.second ∷ [])) l))
-          (none_left a.at.now.asked.now.word.now a.«from» a.at.now.end (form_of a.second) (sym c.in-None.is ∙ (asked c.args.second (between c.args.at.now.asked.now.word.now c.args.«from» c.args.at.now.end) _ _ c.prefix_rest-rest.ensures (c.prefix_form.ensures ∙ ap form_of c.from.ensures))))),
-      left-none (prefix_visits 0 (reply a.at.now.asked.now.sheet.now.bytes.now)) (between c.args.at.now.asked.now.word.now c.args.«from» c.args.at.now.end) (form_of a.second) (none_left a.at.now.asked.now.word.now a.«from» a.at.now.end (form_of a.second) (sym c.in-None.is ∙ (asked c.args.second (between c.args.at.now.asked.now.word.now c.args.«from» c.args.at.now.end) _ _ c.prefix_rest-rest.ensures (c.prefix_form.ensures ∙ ap form_of c.from.ensures)))),
+      sym (ap (λ (l : List (List ℕ)). plus_all a.behind.now.at.now.asked.now.word.now a.kept.now (on_left (root_walk (reply a.behind.now.at.now.asked.now.sheet.now.bytes.now) a.behind.now.at.now.asked.now.surface a.behind.now.at.now.chain (take a.behind.now.at.now.end a.behind.now.at.now.asked.now.word.now) (a.first ∷ a.second ∷ [])) l))
+          (none_left a.behind.now.at.now.asked.now.word.now a.behind.now.start a.behind.now.at.now.end (form_of a.second) (sym c.in-None.is ∙ (asked c.args.second (between c.args.behind.now.at.now.asked.now.word.now c.args.behind.now.start c.args.behind.now.at.now.end) _ _ c.prefix_rest-rest.ensures (c.prefix_form.ensures ∙ ap form_of c.from.ensures))))),
+      left-none (prefix_visits 0 (reply a.behind.now.at.now.asked.now.sheet.now.bytes.now)) (between c.args.behind.now.at.now.asked.now.word.now c.args.behind.now.start c.args.behind.now.at.now.end) (form_of a.second) (none_left a.behind.now.at.now.asked.now.word.now a.behind.now.start a.behind.now.at.now.end (form_of a.second) (sym c.in-None.is ∙ (asked c.args.second (between c.args.behind.now.at.now.asked.now.word.now c.args.behind.now.start c.args.behind.now.at.now.end) _ _ c.prefix_rest-rest.ensures (c.prefix_form.ensures ∙ ap form_of c.from.ensures)))),
     )
 
 pub returns-in-Some : goal.returns-in-Some
 returns-in-Some c =
     let a = c.args in (
       c.with_root.ensures
-          ∙ ap (plus_all a.at.now.asked.now.word.now a.kept.now) (root_at a.at.now.asked.now.word.now (a.«from» + c.in-Some.cut) a.at.now.end (reply a.at.now.asked.now.sheet.now.bytes.now) a.at.now.asked.now.surface a.at.now.chain (a.first ∷ a.second ∷ []) (inside (goal.at.returns-in-Some c).In-Some) c.args.at.now.inside)
-          ∙ sym (ap (λ (l : List (List ℕ)). plus_all a.at.now.asked.now.word.now a.kept.now (on_left (root_walk (reply a.at.now.asked.now.sheet.now.bytes.now) a.at.now.asked.now.surface a.at.now.chain (take a.at.now.end a.at.now.asked.now.word.now) (a.first ∷ a.second ∷ [])) l))
-          (one_left a.at.now.asked.now.word.now a.«from» a.at.now.end (form_of a.second) c.in-Some.cut (sym c.in-Some.is ∙ (asked c.args.second (between c.args.at.now.asked.now.word.now c.args.«from» c.args.at.now.end) _ _ c.prefix_rest-rest.ensures (c.prefix_form.ensures ∙ ap form_of c.from.ensures))))),
-      left_one (prefix_visits 0 (reply a.at.now.asked.now.sheet.now.bytes.now)) (between c.args.at.now.asked.now.word.now c.args.«from» c.args.at.now.end) (form_of a.second) _ 1
-          (one_left a.at.now.asked.now.word.now a.«from» a.at.now.end (form_of a.second) c.in-Some.cut (sym c.in-Some.is ∙ (asked c.args.second (between c.args.at.now.asked.now.word.now c.args.«from» c.args.at.now.end) _ _ c.prefix_rest-rest.ensures (c.prefix_form.ensures ∙ ap form_of c.from.ensures)))) (prefix_last (reply a.at.now.asked.now.sheet.now.bytes.now) _),
+          ∙ ap (plus_all a.behind.now.at.now.asked.now.word.now a.kept.now) (root_at a.behind.now.at.now.asked.now.word.now (a.behind.now.start + c.in-Some.cut) a.behind.now.at.now.end (reply a.behind.now.at.now.asked.now.sheet.now.bytes.now) a.behind.now.at.now.asked.now.surface a.behind.now.at.now.chain (a.first ∷ a.second ∷ []) (inside (goal.at.returns-in-Some c).In-Some) c.args.behind.now.at.now.inside)
+          ∙ sym (ap (λ (l : List (List ℕ)). plus_all a.behind.now.at.now.asked.now.word.now a.kept.now (on_left (root_walk (reply a.behind.now.at.now.asked.now.sheet.now.bytes.now) a.behind.now.at.now.asked.now.surface a.behind.now.at.now.chain (take a.behind.now.at.now.end a.behind.now.at.now.asked.now.word.now) (a.first ∷ a.second ∷ [])) l))
+          (one_left a.behind.now.at.now.asked.now.word.now a.behind.now.start a.behind.now.at.now.end (form_of a.second) c.in-Some.cut (sym c.in-Some.is ∙ (asked c.args.second (between c.args.behind.now.at.now.asked.now.word.now c.args.behind.now.start c.args.behind.now.at.now.end) _ _ c.prefix_rest-rest.ensures (c.prefix_form.ensures ∙ ap form_of c.from.ensures))))),
+      left_one (prefix_visits 0 (reply a.behind.now.at.now.asked.now.sheet.now.bytes.now)) (between c.args.behind.now.at.now.asked.now.word.now c.args.behind.now.start c.args.behind.now.at.now.end) (form_of a.second) _ 1
+          (one_left a.behind.now.at.now.asked.now.word.now a.behind.now.start a.behind.now.at.now.end (form_of a.second) c.in-Some.cut (sym c.in-Some.is ∙ (asked c.args.second (between c.args.behind.now.at.now.asked.now.word.now c.args.behind.now.start c.args.behind.now.at.now.end) _ _ c.prefix_rest-rest.ensures (c.prefix_form.ensures ∙ ap form_of c.from.ensures)))) (prefix_last (reply a.behind.now.at.now.asked.now.sheet.now.bytes.now) _),
     )

@@ -18,12 +18,11 @@ use Rattle.analysis.proofs.Opened.{no-forms}
 use Rattle.analysis.proofs.prefixes.with_stem.Goals as goal
 use Rattle.analysis.proofs.prefixes.with_stem.Goals.{After-with_root}
 
-pub with_root-requires : goal.with_root-requires
-with_root-requires c = (
-  omega arith,
-  omega arith,
-  c.args.at.now.told ∙ ap (is_progressive (reply c.args.at.now.asked.now.sheet.now.bytes.now)) (sym (whole-front c.args.at.now.asked.now.word.now c.args.at.now.end)),
-)
+pub invariant_of-whole : goal.invariant_of-whole
+invariant_of-whole c = record {
+  inside = omega arith;
+  told = c.args.at.now.told ∙ ap (is_progressive (reply c.args.at.now.asked.now.sheet.now.bytes.now)) (sym (whole-front c.args.at.now.asked.now.word.now c.args.at.now.end));
+}
 
 -- the stem's own reading is kept
 own : (c : After-with_root) {x : Rows}
