@@ -10,7 +10,7 @@ use lib.Dec.{ltb}
 use borrow.Author.Tests.{ltb-false}
 use Rattle.runs.specs.Runs.{pick}
 use Rattle.lookup.specs.declared.asked.Asked.{Asked}
-use Rattle.paths.proofs.Score.{chars_most}
+use Rattle.text.proofs.Scan.{chars_most}
 use Rattle.text.specs.Utf8.{is_utf8}
 use Rattle.text.specs.Names.{holds_forbidden}
 use Rattle.text.specs.Word.{word_limit, word_check}

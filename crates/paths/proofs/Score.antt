@@ -3,12 +3,11 @@
 use Prim.Native.Nat.{ℕ, ◌+◌, ◌≤◌}
 use native.Mathlib.Omega.{arith}
 use mathlib.Core.Bool.{Bool, true, false}
-use mathlib.Core.List.{List, [], ◌∷◌}
+use mathlib.Core.List.{List}
 use lib.ListN.{length}
 use lib.Dec.{ltb}
-use Rattle.text.specs.Utf8.{tail, within}
-use Rattle.text.specs.Characters.{opens, chars}
-use Rattle.runs.specs.Runs.{pick}
+use Rattle.text.specs.Characters.{chars}
+use Rattle.text.proofs.Scan.{chars_most}
 use Rattle.sheet.specs.Replies.{Ask, letters_by}
 use Rattle.ranking.specs.Scores.{points}
 use Rattle.paths.specs.Support.{has_sibling, score_of}
@@ -26,23 +25,6 @@ score_bound ask n root p s h i j =
     let b = points_most (letters_by ask root).head 150 in
     let c = points_most (has_sibling ask root) 60 in
     let d = points_most (ltb 0 (p + s)) 10 in
-    omega arith
-
-opens_most : (b : ℕ) → opens b ≤ 1
-unfolding opens
-opens_most b = go (within tail b)
-  where
-    go : (t : Bool) → pick t 0 1 ≤ 1
-    go true = omega arith
-    go false = omega arith
-
--- a text has no more characters than bytes
-pub chars_most : (s : List ℕ) → chars s ≤ length s
-unfolding chars
-chars_most [] = omega arith
-chars_most (b ∷ s) =
-    let h = opens_most b in
-    let k = chars_most s in
     omega arith
 
 pub path_score : (ask : Ask) (w : List ℕ) (p : Route) → length w ≤ 192 → PathOf ask w p → (reading_of ask w p).score ≤ 612

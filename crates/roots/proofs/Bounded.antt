@@ -192,16 +192,6 @@ module _ (ask : Ask) (w : List ℕ) where
       ∙ sym (held-append root_limit ask w [] first (under_forms ask w 0 prefix_forms))
       ∙ held-candidates
 
--- a text has at most as many characters as bytes
-pub chars_most : (s : List ℕ) → chars s ≤ length s
-unfolding chars opens
-chars_most [] = omega arith
-chars_most (b ∷ s) = by (within tail b) (chars_most s)
-  where
-    by : (x : Bool) → chars s ≤ length s → pick x 0 1 + chars s ≤ suc (length s)
-    by true h = omega arith
-    by false h = omega arith
-
 -- so an entry gives at most 16
 pub roots_few : (word sheet : List ℕ) → length (roots_for word sheet) ≤ root_limit
 unfolding roots_for

@@ -13,7 +13,7 @@ use Rattle.std.specs.declared.cmp.Ordering.{Ordering}
 use Rattle.std.specs.declared.cmp.Ordering.TheVariants.{Less, Equal, Greater}
 use Rattle.runs.specs.Runs.{pick}
 use Rattle.decomposition.specs.declared.Parts.{Parts}
-use Rattle.roots.specs.Rank.{is_equal, key_order, ahead_of}
+use Rattle.roots.specs.Rank.{key_order, ahead_of}
 use Rattle.roots.specs.Lists.{holds_in, ranked, root_limit}
 use Rattle.roots.specs.Room.{once_within}
 use Rattle.roots.specs.declared.RootCandidate.{RootCandidate}
@@ -25,7 +25,7 @@ holds_any w p [] = refl
 holds_any w p (x ∷ xs) = by (key_order w p x.parts) (holds_any w p xs)
   where
     by : (o : Ordering) → holds_in w p xs ≡ list_any (λ x. is_eq (key_order w p x.parts)) xs
-        → pick (is_equal o) true (holds_in w p xs) ≡ (is_eq o || list_any (λ x. is_eq (key_order w p x.parts)) xs)
+        → pick (is_eq o) true (holds_in w p xs) ≡ (is_eq o || list_any (λ x. is_eq (key_order w p x.parts)) xs)
     by Less e = e
     by Equal e = refl
     by Greater e = e

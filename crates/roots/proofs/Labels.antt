@@ -13,10 +13,10 @@ use Rattle.std.specs.Cmp.Lexicographic.{slice_cmp}
 use Rattle.std.specs.Option.{unwrap_or, option_cmp, MatchOption, IsSomeAnd}
 use denote.Ref.{Bor}
 use Rattle.decomposition.specs.Parts.{prefixes_of}
-use Rattle.std.specs.Ordering.{MatchOrdering, is_ne, nat_cmp}
+use Rattle.std.specs.Ordering.{MatchOrdering, is_ne, nat_cmp, ordering_then}
 use Rattle.runs.specs.Runs.{cmp}
 use Rattle.runs.proofs.Ordered.{compared}
-use Rattle.roots.specs.Rank.{then_by, cmp_texts}
+use Rattle.roots.specs.Rank.{cmp_texts}
 
 one_more : (n m : ℕ) → nat_cmp n m ≡ nat_cmp (suc n) (suc m)
 one_more n m = nat_cmp_is (suc n) (suc m) (nat_cmp n m) (go (nat_cmp n m) (ranks n m))
@@ -38,7 +38,7 @@ module _ (f : ℕ → List ℕ) where
   labels_ordered (x ∷ xs) (y ∷ ys) = by (cmp (f x) (f y)) (labels_ordered xs ys)
     where
       by : (o : Ordering) → unwrap_or (find is_ne (map pair_order (zip xs ys))) (nat_cmp (length xs) (length ys)) ≡ cmp_texts (map f xs) (map f ys)
-          → unwrap_or (find is_ne (o ∷ map pair_order (zip xs ys))) (nat_cmp (suc (length xs)) (suc (length ys))) ≡ then_by o (cmp_texts (map f xs) (map f ys))
+          → unwrap_or (find is_ne (o ∷ map pair_order (zip xs ys))) (nat_cmp (suc (length xs)) (suc (length ys))) ≡ ordering_then o (cmp_texts (map f xs) (map f ys))
       by Less e = refl
       by Equal e = ap (unwrap_or (find is_ne (map pair_order (zip xs ys)))) (sym (one_more (length xs) (length ys))) ∙ e
       by Greater e = refl
@@ -61,7 +61,7 @@ options_ordered f (Some k) None (Some x) (Some y) d e = let z : ◌≡◌ {A = �
 options_ordered f (Some k) (Some m) (Some x) None d e = absurd e
 options_ordered f (Some k) (Some m) (Some x) (Some y) d e = compared x.now y.now ∙ ap₂ cmp d e ∙ sym (alone (cmp (f k) (f m)))
   where
-    alone : (o : Ordering) → then_by o Equal ≡ o
+    alone : (o : Ordering) → ordering_then o Equal ≡ o
     alone Less = refl
     alone Equal = refl
     alone Greater = refl

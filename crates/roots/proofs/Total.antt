@@ -15,7 +15,8 @@ use Rattle.sheet.specs.Letters.{is_known}
 use Rattle.sheet.specs.Replies.{Ask, letters_by}
 use Rattle.decomposition.specs.declared.Parts.{Parts}
 use Rattle.decomposition.specs.Parts.{root_text}
-use Rattle.roots.specs.Rank.{is_equal, then_by, descending, having, cmp_texts, prefix_texts, suffix_texts, key_order, rank_of, ahead_of}
+use Rattle.std.specs.Ordering.{is_eq, ordering_then}
+use Rattle.roots.specs.Rank.{descending, having, cmp_texts, prefix_texts, suffix_texts, key_order, rank_of, ahead_of}
 use Rattle.roots.specs.Lists.{holds_in, ranked, once}
 use Rattle.roots.specs.Candidates.{candidate_by, kept_of, kept_all, offers, candidates}
 use Rattle.roots.specs.declared.RootCandidate.{RootCandidate}
@@ -37,33 +38,33 @@ alike_right {A} {o} f a b c e = f.turn c a ∙ ap turned (sym (f.alike b c a e))
 
 -- Orders one after the other.
 
-then_turned : (p q : Ordering) → then_by (turned p) (turned q) ≡ turned (then_by p q)
+then_turned : (p q : Ordering) → ordering_then (turned p) (turned q) ≡ turned (ordering_then p q)
 then_turned Less q = refl
 then_turned Equal q = refl
 then_turned Greater q = refl
 
-then_equal : (p q : Ordering) → then_by p q ≡ Equal → (p ≡ Equal) × (q ≡ Equal)
+then_equal : (p q : Ordering) → ordering_then p q ≡ Equal → (p ≡ Equal) × (q ≡ Equal)
 then_equal Less q e = let z : ◌≡◌ {A = ℕ} 0 1 = cc in absurd (omega arith)
 then_equal Equal q e = (refl, e)
 then_equal Greater q e = let z : ◌≡◌ {A = ℕ} 0 1 = cc in absurd (omega arith)
 
 then_less : (pab pbc pac qab qbc qac : Ordering) → (pab ≡ Less → pbc ≡ Less → pac ≡ Less) → (pab ≡ Equal → pac ≡ pbc) → (pbc ≡ Equal → pac ≡ pab)
-    → (qab ≡ Less → qbc ≡ Less → qac ≡ Less) → then_by pab qab ≡ Less → then_by pbc qbc ≡ Less → then_by pac qac ≡ Less
-then_less Less Less pac qab qbc qac t l r q d e = ap (λ (o : Ordering). then_by o qac) (t refl refl)
-then_less Less Equal pac qab qbc qac t l r q d e = ap (λ (o : Ordering). then_by o qac) (r refl)
-then_less Equal Less pac qab qbc qac t l r q d e = ap (λ (o : Ordering). then_by o qac) (l refl)
-then_less Equal Equal pac qab qbc qac t l r q d e = ap (λ (o : Ordering). then_by o qac) (l refl) ∙ q d e
+    → (qab ≡ Less → qbc ≡ Less → qac ≡ Less) → ordering_then pab qab ≡ Less → ordering_then pbc qbc ≡ Less → ordering_then pac qac ≡ Less
+then_less Less Less pac qab qbc qac t l r q d e = ap (λ (o : Ordering). ordering_then o qac) (t refl refl)
+then_less Less Equal pac qab qbc qac t l r q d e = ap (λ (o : Ordering). ordering_then o qac) (r refl)
+then_less Equal Less pac qab qbc qac t l r q d e = ap (λ (o : Ordering). ordering_then o qac) (l refl)
+then_less Equal Equal pac qab qbc qac t l r q d e = ap (λ (o : Ordering). ordering_then o qac) (l refl) ∙ q d e
 then_less Greater pbc pac qab qbc qac t l r q d e = let z : ◌≡◌ {A = ℕ} 0 1 = cc in absurd (omega arith)
 then_less Less Greater pac qab qbc qac t l r q d e = let z : ◌≡◌ {A = ℕ} 0 1 = cc in absurd (omega arith)
 then_less Equal Greater pac qab qbc qac t l r q d e = let z : ◌≡◌ {A = ℕ} 0 1 = cc in absurd (omega arith)
 
 module _ {A : Type 0} {p q : A → A → Ordering} (f : Fair p) (g : Fair q) where
-  then_fair : Fair (λ (a b : A). then_by (p a b) (q a b))
+  then_fair : Fair (λ (a b : A). ordering_then (p a b) (q a b))
   then_fair = record {
-    turn = λ a b. ap (λ (o : Ordering). then_by o (q b a)) (f.turn a b) ∙ ap (then_by (turned (p a b))) (g.turn a b) ∙ then_turned (p a b) (q a b);
+    turn = λ a b. ap (λ (o : Ordering). ordering_then o (q b a)) (f.turn a b) ∙ ap (ordering_then (turned (p a b))) (g.turn a b) ∙ then_turned (p a b) (q a b);
     alike = λ a b c e.
         let d = then_equal (p a b) (q a b) e in
-        ap (λ (o : Ordering). then_by o (q a c)) (f.alike a b c d.0) ∙ ap (then_by (p b c)) (g.alike a b c d.1);
+        ap (λ (o : Ordering). ordering_then o (q a c)) (f.alike a b c d.0) ∙ ap (ordering_then (p b c)) (g.alike a b c d.1);
     trans = λ a b c d e.
         then_less (p a b) (p b c) (p a c) (q a b) (q b c) (q a c) (f.trans a b c) (f.alike a b c) (alike_right f a b c) (g.trans a b c) d e;
   }
@@ -78,7 +79,7 @@ texts_turned [] [] = refl
 texts_turned [] (y ∷ ys) = refl
 texts_turned (x ∷ xs) [] = refl
 texts_turned (x ∷ xs) (y ∷ ys) =
-    ap (λ (o : Ordering). then_by o (cmp_texts ys xs)) (cmp_turned x y) ∙ ap (then_by (turned (cmp x y))) (texts_turned xs ys) ∙ then_turned (cmp x y) (cmp_texts xs ys)
+    ap (λ (o : Ordering). ordering_then o (cmp_texts ys xs)) (cmp_turned x y) ∙ ap (ordering_then (turned (cmp x y))) (texts_turned xs ys) ∙ then_turned (cmp x y) (cmp_texts xs ys)
 
 pub texts_equal : (a b : List (List ℕ)) → cmp_texts a b ≡ Equal → a ≡ b
 texts_equal [] [] e = refl
@@ -167,7 +168,7 @@ module _ (w : List ℕ) where
       let m = having a.known_word b.known_word in
       let h = having a.known_headword b.known_headword in
       let s = descending a.score b.score in
-      (then_equal n k (then_equal m (then_by n k) (then_equal h (then_by m (then_by n k)) (then_equal s (then_by h (then_by m (then_by n k))) e).1).1).1).1
+      (then_equal n k (then_equal m (ordering_then n k) (then_equal h (ordering_then m (ordering_then n k)) (then_equal s (ordering_then h (ordering_then m (ordering_then n k))) e).1).1).1).1
 
   -- neither comes first only where root, prefixes and suffixes are the same
   pub rank_same : (a b : RootCandidate) → rank_of w a b ≡ Equal
@@ -176,7 +177,7 @@ module _ (w : List ℕ) where
   rank_same a b e =
       let p = a.parts in
       let q = b.parts in
-      let d = then_equal (cmp (root_text w p) (root_text w q)) (then_by (cmp_texts (prefix_texts p) (prefix_texts q)) (cmp_texts (suffix_texts p) (suffix_texts q))) (rank_key a b e) in
+      let d = then_equal (cmp (root_text w p) (root_text w q)) (ordering_then (cmp_texts (prefix_texts p) (prefix_texts q)) (cmp_texts (suffix_texts p) (suffix_texts q))) (rank_key a b e) in
       let f = then_equal (cmp_texts (prefix_texts p) (prefix_texts q)) (cmp_texts (suffix_texts p) (suffix_texts q)) d.1 in
       (cmp_equal (root_text w p) (root_text w q) d.0, texts_equal (prefix_texts p) (prefix_texts q) f.0, texts_equal (suffix_texts p) (suffix_texts q) f.1)
 
@@ -205,14 +206,14 @@ module _ (w : List ℕ) where
   ranked_ascends : (r : RootCandidate) (xs : List RootCandidate) → holds_in w r.parts xs ≡ false → Ascends xs → Ascends (ranked w r xs)
   unfolding ranked holds_in ahead_of
   ranked_ascends r [] h a = (tt, tt)
-  ranked_ascends r (x ∷ xs) h a = by (rank_of w r x) refl (is_equal (key_order w r.parts x.parts)) refl h (λ t. ranked_ascends r xs t a.1)
+  ranked_ascends r (x ∷ xs) h a = by (rank_of w r x) refl (is_eq (key_order w r.parts x.parts)) refl h (λ t. ranked_ascends r xs t a.1)
     where
-      by : (o : Ordering) → rank_of w r x ≡ o → (s : Bool) → is_equal (key_order w r.parts x.parts) ≡ s → pick s true (holds_in w r.parts xs) ≡ false
+      by : (o : Ordering) → rank_of w r x ≡ o → (s : Bool) → is_eq (key_order w r.parts x.parts) ≡ s → pick s true (holds_in w r.parts xs) ≡ false
           → (holds_in w r.parts xs ≡ false → Ascends (ranked w r xs)) → Ascends (pick (is_less o) (r ∷ x ∷ xs) (x ∷ ranked w r xs))
       by o e true k t f = let z : ◌≡◌ {A = ℕ} 0 1 = cc in absurd (omega arith)
       by Less e false k t f = ((e, before_all r x xs e a.0), a)
       by Equal e false k t f =
-          let y : ◌≡◌ {A = Bool} true false = sym (ap is_equal (rank_key r x e)) ∙ k in
+          let y : ◌≡◌ {A = Bool} true false = sym (ap is_eq (rank_key r x e)) ∙ k in
           let z : ◌≡◌ {A = ℕ} 0 1 = cc in
           absurd (omega arith)
       by Greater e false k t f = (before-ranked x r xs (rank_turned r x ∙ ap turned e) a.0, f t)

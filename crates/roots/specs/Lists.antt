@@ -3,7 +3,8 @@ use Rattle.std.specs.Prelude.{ℕ, Bool, true, false, None, List, [], ◌∷◌}
 use Rattle.runs.specs.Runs.{pick}
 use Rattle.tables.specs.declared.origins.Origin.TheVariants.{Tatsam}
 use Rattle.decomposition.specs.declared.Parts.{Parts}
-use Rattle.roots.specs.Rank.{is_equal, key_order, ahead_of}
+use Rattle.std.specs.Ordering.{is_eq}
+use Rattle.roots.specs.Rank.{key_order, ahead_of}
 use Rattle.roots.specs.declared.RootCandidate.{RootCandidate}
 
 -- the most candidates of a word
@@ -18,7 +19,7 @@ is_some (x ∷ xs) = true
 -- some row has the root, prefixes and suffixes of p
 unfoldable pub holds_in : List ℕ → Parts → List RootCandidate → Bool
 holds_in w p [] = false
-holds_in w p (x ∷ xs) = pick (is_equal (key_order w p x.parts)) true (holds_in w p xs)
+holds_in w p (x ∷ xs) = pick (is_eq (key_order w p x.parts)) true (holds_in w p xs)
 
 -- r put in before the first row that it is ahead of
 unfoldable pub ranked : List ℕ → RootCandidate → List RootCandidate → List RootCandidate

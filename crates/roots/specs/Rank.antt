@@ -2,6 +2,7 @@
 -- bytes, prefix list, suffix list ascending. Labels are told by their rows and compare by their texts. Assumes nothing.
 use Rattle.std.specs.Prelude.{ℕ, Bool, true, false, List, [], ◌∷◌, map, take, get_or, ltb}
 use Rattle.runs.specs.Runs.{pick, cmp}
+use Rattle.std.specs.Ordering.{ordering_then}
 use Rattle.std.specs.declared.cmp.Ordering.{Ordering}
 use Rattle.std.specs.declared.cmp.Ordering.TheVariants.{Less, Equal, Greater}
 use Rattle.text.specs.Characters.{chars}
@@ -10,17 +11,6 @@ use Rattle.ranking.specs.Rank.{is_less}
 use Rattle.decomposition.specs.Parts.{root_text, prefixes_of}
 use Rattle.decomposition.specs.declared.Parts.{Parts}
 use Rattle.roots.specs.declared.RootCandidate.{RootCandidate}
-
-abbrev pub is_equal : Ordering → Bool
-is_equal Less = false
-is_equal Equal = true
-is_equal Greater = false
-
--- the first decides, and where it stands alike the rest
-abbrev pub then_by : Ordering → Ordering → Ordering
-then_by Less rest = Less
-then_by Equal rest = rest
-then_by Greater rest = Greater
 
 -- the larger number first
 abbrev pub descending : ℕ → ℕ → Ordering
@@ -38,7 +28,7 @@ abbrev pub cmp_texts : List (List ℕ) → List (List ℕ) → Ordering
 cmp_texts [] [] = Equal
 cmp_texts [] (y ∷ ys) = Less
 cmp_texts (x ∷ xs) [] = Greater
-cmp_texts (x ∷ xs) (y ∷ ys) = then_by (cmp x y) (cmp_texts xs ys)
+cmp_texts (x ∷ xs) (y ∷ ys) = ordering_then (cmp x y) (cmp_texts xs ys)
 
 -- the labels of parts
 abbrev pub text_of : List (List ℕ) → ℕ → List ℕ
@@ -52,15 +42,15 @@ suffix_texts p = map (text_of suffixes) (take p.suffix_count p.suffixes)
 
 -- root bytes, prefix list, suffix list ascending
 unfoldable pub key_order : List ℕ → Parts → Parts → Ordering
-key_order w a b = then_by (cmp (root_text w a) (root_text w b)) (then_by (cmp_texts (prefix_texts a) (prefix_texts b)) (cmp_texts (suffix_texts a) (suffix_texts b)))
+key_order w a b = ordering_then (cmp (root_text w a) (root_text w b)) (ordering_then (cmp_texts (prefix_texts a) (prefix_texts b)) (cmp_texts (suffix_texts a) (suffix_texts b)))
 
 -- Less where a comes first
 unfoldable pub rank_of : List ℕ → RootCandidate → RootCandidate → Ordering
 rank_of w a b =
-    then_by (descending a.score b.score)
-    (then_by (having a.known_headword b.known_headword)
-    (then_by (having a.known_word b.known_word)
-    (then_by (descending (chars (root_text w a.parts)) (chars (root_text w b.parts)))
+    ordering_then (descending a.score b.score)
+    (ordering_then (having a.known_headword b.known_headword)
+    (ordering_then (having a.known_word b.known_word)
+    (ordering_then (descending (chars (root_text w a.parts)) (chars (root_text w b.parts)))
     (key_order w a.parts b.parts))))
 
 unfoldable pub ahead_of : List ℕ → RootCandidate → RootCandidate → Bool

@@ -7,7 +7,8 @@ use Rattle.text.specs.Characters.{chars}
 use Rattle.lookup.specs.Lexicons.{replies}
 use Rattle.decomposition.specs.Parts.{decomposed_of}
 use Rattle.decomposition.proofs.Few.{few-suffixes}
-use Rattle.roots.proofs.Bounded.{collected_is, chars_most}
+use Rattle.text.proofs.Scan.{chars_most}
+use Rattle.roots.proofs.Bounded.{collected_is}
 use Rattle.roots.proofs.collect_candidates.Goals as goal
 
 pub overflow_cast-asked : goal.overflow_cast-asked

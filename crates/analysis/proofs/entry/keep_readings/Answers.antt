@@ -9,7 +9,7 @@ use Rattle.ranking.specs.Stored.{no_segment}
 use Rattle.paths.specs.Chains.{all_rows, most_strips}
 use Rattle.paths.specs.Walk.{empty_chain, piece_walk, word_walk}
 use Rattle.paths.specs.Weighed.{weighed}
-use Rattle.paths.proofs.Score.{chars_most}
+use Rattle.text.proofs.Scan.{chars_most}
 use Rattle.analysis.proofs.Visited.{word_visits}
 use Rattle.analysis.proofs.Accepted.{word-parts}
 use Rattle.analysis.proofs.entry.keep_readings.Goals as goal

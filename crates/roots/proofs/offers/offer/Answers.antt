@@ -4,7 +4,7 @@ use native.Mathlib.Omega.{arith}
 use Prim.Native.Nat.{◌≤◌}
 use lib.ListN.{length}
 use Rattle.text.specs.Characters.{chars}
-use Rattle.roots.proofs.Bounded.{chars_most}
+use Rattle.text.proofs.Scan.{chars_most}
 use Rattle.roots.proofs.Offered.{scored, candidate_is, offer_unknown, offer_known}
 use Rattle.roots.proofs.offers.offer.Goals as goal
 
