@@ -4,12 +4,11 @@ use mathlib.Core.Path.{◌≡◌, refl, ap, ◌∙◌}
 use mathlib.Core.Bool.{Bool, true, false, ◌||◌}
 use mathlib.Core.List.{List, [], ◌∷◌}
 use Prim.Native.Nat.{ℕ, ◌+◌, ◌-◌, ◌<◌, ◌≤◌}
-use native.Mathlib.Numerals.{add-one}
 use native.Mathlib.Omega.{arith}
 use Rattle.std.proofs.Common.{Bor, map}
 use Rattle.std.specs.List.{list_any}
 use lib.ListN.{length, take, drop, length-drop}
-use lib.Seq.{drop-cons, take_all}
+use lib.Seq.{take_all}
 use Rattle.runs.specs.Runs.{begins_with}
 use Rattle.origin.specs.Marks.{contains, some, begins_one, contains_one}
 
@@ -18,11 +17,6 @@ pub rest_lent : (w : List ℕ) (i : ℕ) → take (length w - i) (drop i w) ≡ 
 rest_lent w i =
     let h : length (drop i w) ≤ length w - i = simp length-drop (omega arith) in
     take_all (length w - i) (drop i w) h
-
--- One turn of the scan.
-
-pub contains_at : (t w : List ℕ) (i : ℕ) → i < length w → contains t (drop i w) ≡ (begins_with t (drop i w) || contains t (drop (i + 1) w))
-contains_at t w i h = rw (add-one, drop-cons w i 0)
 
 -- One of the texts that a slice lends.
 

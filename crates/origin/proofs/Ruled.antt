@@ -22,7 +22,6 @@ use Rattle.tables.proofs.Tested.{every}
 use Rattle.strips.specs.Suffix.{sheds, plain, shared, remainders, first_length}
 use Rattle.sheet.specs.Replies.{Ask}
 use Rattle.origin.specs.Marks.{contains, some, contains_one, begins_one, aagantuk_marks, nukta, after_first, has_aagantuk_markers, tatsam_marks, has_tatsam_markers}
-use Rattle.origin.proofs.Marked.{contains_at}
 use Rattle.std.specs.Option.{option_or}
 use Rattle.std.specs.Prelude.{Option, None}
 use Rattle.origin.specs.Decisions.{first_known, known_rest, known_under, known_stem}
@@ -121,7 +120,7 @@ byte_inside [] i e = absurd (omega arith)
 byte_inside (b ∷ w) zero e = omega arith
 byte_inside (b ∷ w) (suc i) e = let h = byte_inside w i e in omega arith
 
--- One turn of the search for one of several texts.
+-- The search for one of several texts.
 
 or_swap : (a b c d : Bool) → ((a || b) || (c || d)) ≡ ((a || c) || (b || d))
 or_swap true b c d = refl
@@ -129,26 +128,28 @@ or_swap false true true d = refl
 or_swap false true false d = refl
 or_swap false false c d = refl
 
-split_at : (ts : List (List ℕ)) (w : List ℕ) (i : ℕ) → i < length w
-    → some (λ (t : List ℕ). contains t (drop i w)) ts ≡ (begins_one ts (drop i w) || some (λ (t : List ℕ). contains t (drop (i + 1) w)) ts)
-split_at [] w i h = refl
-split_at (t ∷ ts) w i h =
-    rw (contains_at t w i h, split_at ts w i h)
-    (or_swap (begins_with t (drop i w)) (contains t (drop (i + 1) w)) (begins_one ts (drop i w)) (some (λ (t : List ℕ). contains t (drop (i + 1) w)) ts))
+some_or : (f g : List ℕ → Bool) (ts : List (List ℕ)) → some (λ (t : List ℕ). f t || g t) ts ≡ (some f ts || some g ts)
+some_or f g [] = refl
+some_or f g (t ∷ ts) = ap (λ (b : Bool). (f t || g t) || b) (some_or f g ts) ∙ or_swap (f t) (g t) (some f ts) (some g ts)
 
-pub found_at : (ts : List (List ℕ)) (w : List ℕ) (i : ℕ) → i < length w → begins_one ts (drop i w) ≡ true → some (λ (t : List ℕ). contains t (drop i w)) ts ≡ true
-found_at ts w i h e = split_at ts w i h ∙ ap (λ (b : Bool). b || some (λ (t : List ℕ). contains t (drop (i + 1) w)) ts) e
-
-pub next_at : (ts : List (List ℕ)) (w : List ℕ) (i : ℕ) → i < length w → begins_one ts (drop i w) ≡ false
-    → some (λ (t : List ℕ). contains t (drop i w)) ts ≡ some (λ (t : List ℕ). contains t (drop (i + 1) w)) ts
-next_at ts w i h e = split_at ts w i h ∙ ap (λ (b : Bool). b || some (λ (t : List ℕ). contains t (drop (i + 1) w)) ts) e
-
-pub none_begin : (ts : List (List ℕ)) (s : List ℕ) → Opens ts → may_open s ≡ false → begins_one ts s ≡ false
+none_begin : (ts : List (List ℕ)) (s : List ℕ) → Opens ts → may_open s ≡ false → begins_one ts s ≡ false
 none_begin [] s o e = refl
 none_begin (t ∷ ts) s o e = rw (no_front_lem t s o.0 e) (none_begin ts s o.1 e)
 
-pub none_at_end : (ts : List (List ℕ)) (w : List ℕ) (i : ℕ) → Opens ts → length w ≤ i → some (λ (t : List ℕ). contains t (drop i w)) ts ≡ false
-none_at_end ts w i o h = ap (λ (s : List ℕ). some (λ (t : List ℕ). contains t s) ts) (drop_of_length-le w h) ∙ none_begin ts [] o empty_shut
+-- a place that opens no mark need not be looked at
+opened_one : (ts : List (List ℕ)) (s : List ℕ) → Opens ts → (may_open s && begins_one ts s) ≡ begins_one ts s
+opened_one ts s o = by (may_open s) refl
+  where
+    by : (b : Bool) → may_open s ≡ b → (b && begins_one ts s) ≡ begins_one ts s
+    by true e = refl
+    by false e = sym (none_begin ts s o e)
+
+pub some_opened : (ts : List (List ℕ)) (w : List ℕ) → Opens ts → somewhere (λ (s : List ℕ). may_open s && begins_one ts s) w ≡ some (λ (t : List ℕ). contains t w) ts
+some_opened ts [] o = sym (none_begin ts [] o empty_shut)
+some_opened ts (b ∷ w) o =
+    ap (λ (x : Bool). x || somewhere (λ (s : List ℕ). may_open s && begins_one ts s) w) (opened_one ts (b ∷ w) o)
+    ∙ ap (λ (x : Bool). begins_one ts (b ∷ w) || x) (some_opened ts w o)
+    ∙ sym (some_or (λ (t : List ℕ). begins_with t (b ∷ w)) (λ (t : List ℕ). contains t w) ts)
 
 none_contained : (ts : List (List ℕ)) (w : List ℕ) → Opens ts → somewhere may_open w ≡ false → some (λ (t : List ℕ). contains t w) ts ≡ false
 none_contained [] w o e = refl

@@ -52,17 +52,11 @@ fn ends_in_one(word: &[u8], texts: &[&str]) -> bool
 }
 
 // Whether the word contains one of the texts, all of which open as marks do, so that few places are looked at.
-#[tactic(auto, unfolding(crate::specs::Marks::contains_one))]
 fn contains_one(word: &[u8], texts: &[&str]) -> bool
     requires { Opens (map (λ (t : _). t.now) texts.now) }
     ensures { result ≡ contains_one (map (λ (t : _). t.now) texts.now) word.now }
 {
-    for i in 0..word.len() {
-        if may_open(word, i) && begins_one(&word[i..], texts) {
-            return true;
-        }
-    }
-    false
+    (0..word.len()).any(|i| may_open(word, i) && begins_one(&word[i..], texts))
 }
 
 // Whether the word has a letter that is written with a nukta, or the nukta U+093C anywhere but first.

@@ -1,29 +1,18 @@
--- `marks::contains_one` meets its contract: what stands before the place begins with none of the texts. Assumes nothing.
-use Rattle.std.proofs.Common.{◌≡◌, ◌∙◌, sym, false, Bor, List, ℕ, map, drop, arith}
+-- `marks::contains_one` meets its contract: `any` asks at each place. Assumes nothing.
+use Rattle.std.proofs.Common.{◌∙◌, refl, sym, Bor, Bool, ◌&&◌, List, ℕ, map, drop, length, arith, rules, tests}
+use Rattle.std.proofs.lemmas.Iterator.{YieldsList-from_range}
+use Rattle.std.proofs.lemmas.Iterator.Search.{any_from_yields_List}
 use Rattle.origin.specs.Marks.{begins_one, contains_one}
+use Rattle.origin.specs.Quick.{may_open}
 use Rattle.origin.proofs.Marked.{lent_begins}
-use Rattle.origin.proofs.Ruled.{found_at, next_at, none_begin, none_at_end}
+use Rattle.origin.proofs.Ruled.{somewhere_any, some_opened}
 use Rattle.origin.proofs.marks.contains_one.Goals as goal
-use Rattle.origin.proofs.marks.contains_one.Goals.{In-loop-i, else-may_open-via-then-may_open+else-begins_one, else-may_open-via-else-may_open}
-
-abbrev lent : List (Bor (List ℕ)) → List (List ℕ)
-lent texts = map (λ (t : Bor (List ℕ)). t.now) texts
-
-pub returns-then-begins_one : goal.returns-then-begins_one
-unfolding contains_one
-returns-then-begins_one c =
-    let a = c.args in
-    sym (c.loop-i.invariant ∙ found_at (lent a.texts.now) a.word.now c.loop-i.i (omega arith) (sym (lent_begins a.texts.now a.word.now c.loop-i.i c.begins_one.ensures) ∙ c.if-begins_one.true))
-
-pub loop-i-preserved : goal.loop-i-preserved
-loop-i-preserved c =
-    let a = c.args in
-    let none : begins_one (lent a.texts.now) (drop c.loop-i.i a.word.now) ≡ false = elim c.else-may_open.branch [
-      | else-may_open-via-then-may_open+else-begins_one w ↦ sym (lent_begins a.texts.now a.word.now c.loop-i.i w.begins_one.ensures) ∙ w.if-begins_one.false
-      | else-may_open-via-else-may_open w ↦ none_begin (lent a.texts.now) (drop c.loop-i.i a.word.now) c.requires (sym c.may_open.ensures ∙ w.if-may_open.false)
-    ] in
-    c.loop-i.invariant ∙ next_at (lent a.texts.now) a.word.now c.loop-i.i (omega arith) none
 
 pub returns : goal.returns
 unfolding contains_one
-returns c = sym (c.loop-i.invariant ∙ none_at_end (lent c.args.texts.now) c.args.word.now c.loop-i.i c.requires c.loop-i-test.false)
+returns c =
+    let w = c.args.word.now in
+    let ts : List (List ℕ) = map (λ (t : Bor (List ℕ)). t.now) c.args.texts.now in
+    let opened : List ℕ → Bool = λ s. may_open s && begins_one ts s in
+    any_from_yields_List (λ i. opened (drop i w)) _ _ c.any.result c.any.ensures.ran (YieldsList-from_range 0 (length w) (length w) refl (omega arith)) (λ x b q k. search (rules, tests, lent_begins))
+    ∙ sym (somewhere_any opened w) ∙ some_opened ts w c.requires
