@@ -13,19 +13,16 @@ use Rattle.runs.specs.Runs.{pick, cmp, same_text}
 use Rattle.std.specs.declared.cmp.Ordering.{Ordering}
 use Rattle.runs.proofs.Ordered.{is_equal, same_cmp}
 use Rattle.tables.specs.Tables.{affixes}
-use Rattle.sheet.specs.Limits.{sheet_limit}
 use Rattle.sheet.specs.Letters.{letters_of}
 use Rattle.sheet.specs.Forms.{is_form, key, key_of}
 use Rattle.sheet.specs.Lines.{line_at}
 use Rattle.sheet.specs.Steps.{name_end, value_end}
-use Rattle.sheet.specs.Replies.{Indexed, reply}
+use Rattle.sheet.specs.Replies.{reply}
 use Rattle.sheet.specs.declared.letters.Letters.{Letters}
 use Rattle.sheet.proofs.Forms.{line-letter, line_long, line-fits, name-text, value-text}
-use Rattle.sheet.proofs.Accepted.{accepted-short}
 use Rattle.lookup.specs.Answers.{ValueOf}
 use Rattle.lookup.specs.declared.answers.Spot.{Spot}
 use Rattle.lookup.proofs.Parts.{read}
-use Rattle.lookup.proofs.Settled.{indexed-form}
 use Rattle.referred.specs.declared.Fault.{Fault}
 use Rattle.referred.specs.declared.Fault.TheVariants.{NotVerb, Unused}
 use Rattle.referred.specs.Report.{verb_fault, is_text, fault_of, fault_at}
@@ -81,9 +78,3 @@ module _ (s : List ℕ) (at : ℕ) where
 
   pub value-inside : is_form (drop at s) ≡ true → value_end s at ≤ length s
   value-inside h = omega (arith, line-fits s at h)
-
--- every line of an accepted sheet begins before its limit
-pub start_small : (s starts : List ℕ) (i : ℕ) → Indexed s starts → i < length starts → get_or starts i 0 < sheet_limit
-start_small s starts i x h =
-    let f = indexed-form s starts i x h in
-    omega (arith, line_long s (get_or starts i 0) f, line-fits s (get_or starts i 0) f, accepted-short s x.accepted)
