@@ -3,16 +3,19 @@
 use Prim.Native.Nat.{ℕ, zero, suc, ◌+◌, ◌-◌, ◌≤◌}
 use native.Mathlib.Omega.{arith}
 use mathlib.Core.Path.{◌≡◌, refl, ap, subst, ◌∙◌}
-use mathlib.Core.Bool.{Bool, true, false, ◌&&◌, and-false}
+use mathlib.Core.Bool.{Bool, true, false, ◌&&◌, and-false, and-true}
 use mathlib.Core.List.{List, [], ◌∷◌, ◌++◌}
 use lib.ListN.{length, take, drop, get_or, length-drop, length-append}
 use lib.Seq.{take_all}
-use borrow.Author.Tests.{eq-eqb}
+use borrow.Author.Tests.{eq-eqb, le-leb}
 use Rattle.runs.specs.Runs.{begins_with}
 use Rattle.runs.proofs.Begins.{begins-append, begins-front}
 use Rattle.text.specs.Names.{name_run}
 use Rattle.sheet.specs.Forms.{front, entry_of, written, is_name, is_meant, is_form}
-use Rattle.sheet.specs.Steps.{head_with}
+use Rattle.sheet.specs.Steps.{head_with, head_of}
+use Rattle.std.specs.Prelude.{Some, None}
+use lib.Dec.{eqb, leb}
+use Rattle.runs.specs.Runs.{pick}
 use Rattle.sheet.proofs.Fronts.{front_length}
 
 -- what stands between the first name and the value, and after the value
@@ -111,3 +114,27 @@ module _ (t : List ℕ) where
   pub shaped : head ≡ true → begins_with between past-name ≡ true → begins_with closing past_value ≡ true
       → begins_with (written (entry_of t)) t ≡ true
   shaped p q r = all_three _ head (begins_with between past-name) (begins_with closing past_value) (shape t) p q r
+
+-- the head by its three bytes
+head_with_by : (l : ℕ) (t : List ℕ) → begins_with (head_with l) t ≡ (leb 3 (length t) && (eqb 0x28 (get_or t 0 0) && (eqb l (get_or t 1 0) && eqb 0x20 (get_or t 2 0))))
+head_with_by l [] = refl
+head_with_by l (a ∷ []) = few (eqb 0x28 a)
+  where
+    few : (x : Bool) → (x && false) ≡ false
+    few true = refl
+    few false = refl
+head_with_by l (a ∷ b ∷ []) = few (eqb 0x28 a) (eqb l b)
+  where
+    few : (x y : Bool) → (x && (y && false)) ≡ false
+    few true true = refl
+    few true false = refl
+    few false y = refl
+head_with_by l (a ∷ b ∷ c ∷ t) = rw (le-leb 3 (suc (suc (suc (length t)))) (omega arith), and-true (eqb 0x20 c))
+
+pub head_by : (t : List ℕ) → head_of t ≡
+    pick (leb 3 (length t) && (eqb 0x28 (get_or t 0 0) && (eqb 0x77 (get_or t 1 0) && eqb 0x20 (get_or t 2 0)))) (Some 0x77)
+    (pick (leb 3 (length t) && (eqb 0x28 (get_or t 0 0) && (eqb 0x6C (get_or t 1 0) && eqb 0x20 (get_or t 2 0)))) (Some 0x6C)
+    (pick (leb 3 (length t) && (eqb 0x28 (get_or t 0 0) && (eqb 0x6B (get_or t 1 0) && eqb 0x20 (get_or t 2 0)))) (Some 0x6B)
+    None))
+unfolding head_of
+head_by t = rw (head_with_by 0x77 t, head_with_by 0x6C t, head_with_by 0x6B t)

@@ -10,19 +10,14 @@ use crate::name::{is_name, read_name, run_end};
 use runs::{begins_with, ends_with, same};
 
 // The first letter of the form whose head stands at the front of t, if one does.
+#[tactic(auto, using(crate::proofs::Shape::head_by, std::proofs::lemmas::Bool::Decides::nat_tests))]
 fn head_at(t: &[u8]) -> Option<u8>
     ensures { result ≡ head_of t.now }
 {
-    if begins_with(t, b"(w ") {
-        return Some(b'w');
+    match *t {
+        [b'(', letter @ (b'w' | b'l' | b'k'), b' ', ..] => Some(letter),
+        _ => None,
     }
-    if begins_with(t, b"(l ") {
-        return Some(b'l');
-    }
-    if begins_with(t, b"(k ") {
-        return Some(b'k');
-    }
-    None
 }
 
 // Whether a value is a kind: `post` or `comp`.
