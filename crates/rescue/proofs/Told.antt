@@ -3,17 +3,24 @@
 use Rattle.std.proofs.Common.{◌≡◌, ℕ, ◌<◌, ◌≤◌, Bool, true, false, List, [], ◌∷◌, ◌++◌, length, take}
 use Rattle.std.proofs.lemmas.List.{take_all, length-take-le}
 use native.Mathlib.Omega.{arith}
-use mathlib.Core.Path.{refl, sym, ap, ◌∙◌}
+use mathlib.Core.Path.{refl, sym, ap, subst, ◌∙◌}
 use mathlib.Core.List.{append_assoc, append-nil}
 use lib.Dec.{ltb}
 use borrow.Author.Tests.{lt-ltb, le-ltb, ltb-true, ltb-false}
 use Rattle.refusals.specs.Refusals.{numbers_of}
 use Rattle.refusals.specs.declared.Refusal.TheVariants.{SheetTooLong}
 use Rattle.sheet.specs.Limits.{sheet_limit}
+use Rattle.sheet.specs.declared.walk.Walk.{Walk}
 use Rattle.writing.specs.Decimal.{decimal, digits_in}
 use Rattle.writing.specs.Refused.{refused_text}
+use Rattle.rescued.specs.declared.part.Torn.{Torn}
 use Rattle.rescued.specs.Stretches.{kept_of, report_of}
+use Rattle.rescued.specs.Parts.{Parted}
 use Rattle.rescue.specs.Printed.{kept_printed, report_told}
+
+-- a part of the report of one sheet is one of that of another where they are the same
+pub part_of : {a b : Torn} {w v : Walk} {old out : List ℕ} {n : ℕ} → a ≡ b → Parted a.sheet.now w v old out n → Parted b.sheet.now w v old out n
+part_of {w = w} {v = v} {old = old} {out = out} {n = n} e p = subst (λ (t : Torn). Parted t.sheet.now w v old out n) e p
 
 -- a part more of a report
 pub part_more : (done part next here whole : List ℕ) → done ++ here ≡ whole → part ++ next ≡ here → (done ++ part) ++ next ≡ whole

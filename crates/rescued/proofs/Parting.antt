@@ -1,4 +1,4 @@
--- A report put part by part. The proof of `report_part` cites these. Assumes nothing.
+-- A report put part by part. The proof of `put_part` cites these. Assumes nothing.
 use Prim.Native.Nat.{ℕ, ◌-◌, ◌*◌, ◌≤◌, ◌<◌}
 use native.Mathlib.Omega.{arith}
 use mathlib.Core.Path.{◌≡◌, sym, ap, ◌∙◌}
@@ -54,12 +54,10 @@ module _ (s : List ℕ) (v w : Walk) (first now : Writer) (k : Part-way s v w fi
       }
 
   -- there was no room for a line more, or all are put
-  pub way_parted : {old out : List ℕ} {n : ℕ} → Whole k.done old out n → (v.at < length s → v.at < w.at) → Parted s v old out (record { walk = w; size = n })
+  pub way_parted : {old out : List ℕ} {n : ℕ} → Whole k.done old out n → (v.at < length s → v.at < w.at) → Parted s v w old out n
   way_parted {old} {out} {n} a g = record {
     size = a.inside;
     rest = ap (drop n) a.contents ∙ drop_at k.done (drop n old) n (sym a.size);
     joined = ap (λ (x : List ℕ). take n x ++ report_over (ahead s w)) a.contents ∙ ap (λ (x : List ℕ). x ++ report_over (ahead s w)) (take_at k.done (drop n old) n (sym a.size)) ∙ k.splits;
-    inside = k.inside;
-    standing = k.standing;
     further = g;
   }

@@ -32,7 +32,6 @@ use Rattle.rescued.specs.Stretches.{Stretch, text_of, fate_at, stretches_from, s
 use Rattle.rescued.specs.Answers.{rescued_of, rescued_numbers}
 use Rattle.rescued.specs.Places.{ahead, Stepped}
 use Rattle.rescued.specs.Parts.{Parted}
-use Rattle.rescued.specs.declared.part.Part.{Part}
 use Rattle.rescued.proofs.Stretched.{none_ahead, cut-bytes, form_reach}
 use Rattle.rescued.proofs.Walked.{Meant, walked}
 
@@ -256,9 +255,9 @@ dropped_exactly x xs = (from xs, λ m. to xs m.0 m.1)
         on false e (inr k) rest = rest k
 
 -- the parts of a report, from byte 0 on, are the report: what is written of the first and the report from there on
-pub first_part : (s old out : List ℕ) (r : Part) → Parted s at_first old out r → take r.size out ++ report_over (ahead s r.walk) ≡ report_of s
-first_part s old out r p = p.joined
+pub first_part : (s old out : List ℕ) (v : Walk) (n : ℕ) → Parted s at_first v old out n → take n out ++ report_over (ahead s v) ≡ report_of s
+first_part s old out v n p = p.joined
 
-pub last-part : (s old out : List ℕ) (w : Walk) (r : Part) → Parted s w old out r → length s ≤ r.walk.at → take r.size out ≡ report_over (ahead s w)
+pub last-part : (s old out : List ℕ) (w v : Walk) (n : ℕ) → Parted s w v old out n → length s ≤ v.at → take n out ≡ report_over (ahead s w)
 unfolding report_over
-last-part s old out w r p h = sym (append-nil (take r.size out)) ∙ ap (λ (x : List ℕ). take r.size out ++ x) (sym (ap report_over (none_ahead s r.walk h))) ∙ p.joined
+last-part s old out w v n p h = sym (append-nil (take n out)) ∙ ap (λ (x : List ℕ). take n out ++ x) (sym (ap report_over (none_ahead s v h))) ∙ p.joined

@@ -1,5 +1,6 @@
 -- The walk over the stretches by places. Assumes nothing.
-use Rattle.std.specs.Prelude.{ℕ, ◌+◌, ◌≤◌, ◌<◌, min, ◌≡◌, List, ◌∷◌, length, drop}
+use Rattle.std.specs.Prelude.{ℕ, ◌+◌, ◌≤◌, ◌<◌, min, ◌≡◌, List, ◌∷◌, length, drop, Option, Some, None}
+use Rattle.std.proofs.Props.{props}
 use Rattle.runs.specs.Bytes.{index_of}
 use Rattle.sheet.specs.Walks.{key_before, Standing, starts_ahead}
 use Rattle.sheet.specs.declared.walk.Walk.{Walk}
@@ -25,3 +26,8 @@ pub record Stepped (s : List ℕ) (w : Walk) (r : Reach) : Type 0 where
   pub inside : r.next.at ≤ length s
   pub standing : Standing s r.next.last
   pub passed : ahead s w ≡ record { start = w.at; end = r.next.at; fate = r.fate } ∷ ahead s r.next
+
+-- that a form stands at the last line has one proof at most, so that a struct can hold it
+pub Standing-prop : (s : List ℕ) (last : Option ℕ) → IsProp (Standing s last)
+Standing-prop s None = Prim.hlevel props
+Standing-prop s (Some at) = Prim.hlevel props

@@ -53,7 +53,7 @@ run_place (b ∷ t) = by (forbidden b) (run_place t)
     by true h = refl
     by false h = omega arith
 
-run_met : (t : List ℕ) → name_run t ≡ unwrap_or (position forbidden t) (length t)
+pub run_met : (t : List ℕ) → name_run t ≡ unwrap_or (position forbidden t) (length t)
 run_met t = run_place t ∙ by (ltb p (length t)) refl
   where
     p : ℕ
@@ -62,18 +62,6 @@ run_met t = run_place t ∙ by (ltb p (length t)) refl
     by : (f : Bool) → ltb p (length t) ≡ f → p ≡ unwrap_or (cond f (Some p) None) (length t)
     by true e = refl
     by false e = omega (arith, ltb-false p (length t) e, run_place t, run_inside t)
-
--- where o is found from byte i of s on
-pub run_found : (s : List ℕ) (i r : ℕ) (o : Option ℕ) → i ≤ length s → o ≡ position forbidden (take (length s - i) (drop i s))
-    → r ≡ unwrap_or o (length (take (length s - i) (drop i s))) → (i + r ≡ i + name_run (drop i s)) × (i + r ≤ length s)
-run_found s i r o h e f =
-    let n : length (drop i s) ≡ length s - i = length-drop i s in
-    let q : take (length s - i) (drop i s) ≡ drop i s = take_all (length s - i) (drop i s) (omega arith) in
-    let p : r ≡ name_run (drop i s) =
-    f ∙ ap (λ (x : Option ℕ). unwrap_or x (length (take (length s - i) (drop i s)))) e
-    ∙ ap (λ (l : List ℕ). unwrap_or (position forbidden l) (length l)) q ∙ sym (run_met (drop i s)) in
-    let k = run_inside (drop i s) in
-    (omega arith, omega arith)
 
 pub front_length : (t : List ℕ) → length (front t) ≡ name_run t
 unfolding name_run
@@ -115,21 +103,20 @@ module _ (s : List ℕ) (i : ℕ) where
   unfolding run
   owed_on o o' h e q = rw (front_on h e, q)
 
-  -- the name that began at `from` has been read up to i, where it ends
-  pub read_done : (from : ℕ) (o : Owed) → from ≤ i → name_run (drop i s) ≡ 0 → i + name_run (drop i s) ≡ from + name_run (drop from s)
-      → run (owes []) (front (drop from s)) ≡ run o (front (drop i s))
-      → (ltb 0 (i - from) && leb (i - from) name_limit && whole o) ≡ is_name (front (drop from s))
+  -- the name has been read up to i, where it ends
+  pub read_done : (o : Owed) → name_run (drop i s) ≡ 0 → i + name_run (drop i s) ≡ name_run s → run (owes []) (front s) ≡ run o (front (drop i s))
+      → (ltb 0 i && leb i name_limit && whole o) ≡ is_name (front s)
   unfolding is_name is_utf8 run
-  read_done from o f z n q =
-      let l : length (front (drop from s)) ≡ i - from = front_length (drop from s) ∙ omega arith in
-      rw (l, front-plain (drop from s), q, z) (sym (and-true _))
+  read_done o z n q =
+      let l : length (front s) ≡ i = front_length s ∙ omega arith in
+      rw (l, front-plain s, q, z) (sym (and-true _))
 
 -- the end of a name, by whether the bytes that were read are one
-pub name_told : (s : List ℕ) (from e : ℕ) {b : Bool} → e ≡ from + name_run (drop from s) → b ≡ is_name (front (drop from s)) → then_some b e ≡ name_read s from
+pub name_told : (t : List ℕ) (e : ℕ) {b : Bool} → e ≡ name_run t → b ≡ is_name (front t) → then_some b e ≡ name_read t
 unfolding name_read
-name_told s from e {b} p q = rw (q, p) (by (is_name (front (drop from s))))
+name_told t e {b} p q = rw (q, p) (by (is_name (front t)))
   where
-    by : (c : Bool) → then_some c (from + name_run (drop from s)) ≡ pick c (Some (from + name_run (drop from s))) None
+    by : (c : Bool) → then_some c (name_run t) ≡ pick c (Some (name_run t)) None
     by true = refl
     by false = refl
 
@@ -176,38 +163,36 @@ module _ (s : List ℕ) (i : ℕ) (t : Three s i) where
       ∙ ap (λ (k : ℕ). run (owes []) (front (drop k s))) third_place
 
   -- and what was passed before it stays so
-  pub passed_on : (a : ℕ) → Passed s a i → Passed s a (i + 3)
-  passed_on a p = record { ahead = omega (arith, p.ahead); inside = t.room; counted = three_counted ∙ p.counted; owed = p.owed ∙ three_owed }
+  pub passed_on : Passed s i → Passed s (i + 3)
+  passed_on p = record { inside = t.room; counted = three_counted ∙ p.counted; owed = p.owed ∙ three_owed }
 
-pub passed_none : (s : List ℕ) (a : ℕ) → a ≤ length s → Passed s a a
-passed_none s a h = record { ahead = omega arith; inside = h; counted = refl; owed = refl }
+passed_none : (s : List ℕ) → Passed s 0
+passed_none s = record { inside = omega arith; counted = omega arith; owed = refl }
 
--- the bytes that are ahead, where those before them from `from` on have been passed
-pub record Ahead (s : List ℕ) (from : ℕ) (rest : List ℕ) : Type 0 where
+-- the bytes that are ahead, where those before them have been passed
+pub record Ahead (s rest : List ℕ) : Type 0 where
   pub within : length rest ≤ length s
   pub behind : rest ≡ drop (length s - length rest) s
-  pub passed : Passed s from (length s - length rest)
+  pub passed : Passed s (length s - length rest)
 
-ahead_from : (s : List ℕ) (from : ℕ) (rest : List ℕ) (n : ℕ) → rest ≡ drop n s → n ≤ length s → Passed s from n → Ahead s from rest
-ahead_from s from rest n e h p =
+ahead_from : (s rest : List ℕ) (n : ℕ) → rest ≡ drop n s → n ≤ length s → Passed s n → Ahead s rest
+ahead_from s rest n e h p =
     let l : length rest ≡ length s - n = ap length e ∙ length-drop n s in
     let m : length s - length rest ≡ n = omega arith in
-    record { within = omega arith; behind = e ∙ ap (λ (x : ℕ). drop x s) (sym m); passed = subst (Passed s from) (sym m) p }
+    record { within = omega arith; behind = e ∙ ap (λ (x : ℕ). drop x s) (sym m); passed = subst (Passed s) (sym m) p }
 
-pub ahead_all : (s : List ℕ) (from : ℕ) → from ≤ length s → Ahead s from (take (length s - from) (drop from s))
-ahead_all s from h =
-    let n : length (drop from s) ≡ length s - from = length-drop from s in
-    ahead_from s from _ from (take_all (length s - from) (drop from s) (omega arith)) h (passed_none s from h)
+pub ahead_all : (s : List ℕ) → Ahead s s
+ahead_all s = ahead_from s s 0 refl (omega arith) (passed_none s)
 
-pub ahead_on : (s : List ℕ) (from : ℕ) (rest : List ℕ) → Ahead s from rest → 3 ≤ length rest → get_or rest 0 0 ≡ 0xE0
+pub ahead_on : (s rest : List ℕ) → Ahead s rest → 3 ≤ length rest → get_or rest 0 0 ≡ 0xE0
     → 0xA0 ≤ get_or rest 1 0 → get_or rest 1 0 ≤ 0xBF → 0x80 ≤ get_or rest 2 0 → get_or rest 2 0 ≤ 0xBF
-    → Ahead s from (take (length rest - 3) (drop 3 rest))
-ahead_on s from rest a h b c d e f =
+    → Ahead s (take (length rest - 3) (drop 3 rest))
+ahead_on s rest a h b c d e f =
     let n : length (drop 3 rest) ≡ length rest - 3 = length-drop 3 rest in
     let q : take (length rest - 3) (drop 3 rest) ≡ drop 3 rest = take_all (length rest - 3) (drop 3 rest) (omega arith) in
     let p : drop 3 rest ≡ drop (i + 3) s = ap (drop 3) a.behind ∙ drop-drop 3 i s in
     let w = a.within in
-    ahead_from s from _ (i + 3) (q ∙ p) (omega arith) (passed_on s i three from a.passed)
+    ahead_from s _ (i + 3) (q ∙ p) (omega arith) (passed_on s i three a.passed)
   where
     i : ℕ
     i = length s - length rest

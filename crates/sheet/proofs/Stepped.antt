@@ -16,6 +16,7 @@ use Rattle.std.specs.Prelude.{Option, Some, None}
 use Rattle.sheet.proofs.Fronts.{front_length, run_inside}
 use Rattle.sheet.proofs.Heads.{letter_is}
 use Rattle.sheet.proofs.Forms.{line-fits}
+use Rattle.sheet.proofs.Shape.{rest_all}
 
 module _ (s : List ℕ) (at : ℕ) where
   pub at_no_form : is_form (drop at s) ≡ false → None ≡ step_at s at
@@ -81,18 +82,25 @@ module _ (s : List ℕ) (at : ℕ) where
   unfolding entry_of
   letter_at l h = letter_is (drop at s) l h
 
--- what the name's end tells: that it is where the bytes stop that a name may hold, inside the sheet; or that there is no name
+-- what the name's length tells: that it is where the bytes stop that a name may hold, inside the sheet; or that there is no name
 abbrev pub Ending : List ℕ → ℕ → Option ℕ → Type 0
 Ending s at None = is_name (front (drop at s)) ≡ false
-Ending s at (Some e) = (e ≡ at + name_run (drop at s)) × (e ≤ length s) × (is_name (front (drop at s)) ≡ true)
+Ending s at (Some n) = (at + n ≡ at + name_run (drop at s)) × (at + n ≤ length s) × (is_name (front (drop at s)) ≡ true)
 
-pub ending : (s : List ℕ) (at : ℕ) → at ≤ length s → (r : Option ℕ) → r ≡ name_read s at → Ending s at r
+pub ending : (s : List ℕ) (at : ℕ) → at ≤ length s → (r : Option ℕ) → r ≡ name_read (take (length s - at) (drop at s)) → Ending s at r
 unfolding name_read
-ending s at h r q = subst (Ending s at) (sym q) (by (is_name (front (drop at s))) refl)
+ending s at h r q = subst (Ending s at) (sym (q ∙ ap name_read (rest_all s at))) (by (is_name (front (drop at s))) refl)
   where
-    by : (b : Bool) → is_name (front (drop at s)) ≡ b → Ending s at (pick b (Some (at + name_run (drop at s))) None)
+    by : (b : Bool) → is_name (front (drop at s)) ≡ b → Ending s at (pick b (Some (name_run (drop at s))) None)
     by true e = (refl, (let n = run_inside (drop at s) in omega (arith, length-drop at s)), e)
     by false e = e
+
+-- where the bytes stop that a name may hold
+pub stopping : (s : List ℕ) (at n : ℕ) → at ≤ length s → n ≡ name_run (take (length s - at) (drop at s)) → (at + n ≡ at + name_run (drop at s)) × (at + n ≤ length s)
+stopping s at n h q =
+    let e = q ∙ ap name_run (rest_all s at) in
+    let k = run_inside (drop at s) in
+    (omega arith, omega (arith, length-drop at s))
 
 -- an entry is its parts
 pub same_entry : (e : Entry) (l : ℕ) (n v : List ℕ) → e.letter ≡ l → e.name ≡ n → e.value ≡ v → e ≡ record { letter = l; name = n; value = v }

@@ -13,9 +13,8 @@ pub record Three (s : List ℕ) (i : ℕ) : Type 0 where
   pub third_low : 0x80 ≤ get_or s (i + 2) 0
   pub third_high : get_or s (i + 2) 0 ≤ 0xBF
 
--- the bytes from a to b are whole characters of the name that begins at a
-pub record Passed (s : List ℕ) (a b : ℕ) : Type 0 where
-  pub ahead : a ≤ b
-  pub inside : b ≤ length s
-  pub counted : b + name_run (drop b s) ≡ a + name_run (drop a s)
-  pub owed : run (owes []) (front (drop a s)) ≡ run (owes []) (front (drop b s))
+-- the bytes of t up to b are whole characters of the name at its front
+pub record Passed (t : List ℕ) (b : ℕ) : Type 0 where
+  pub inside : b ≤ length t
+  pub counted : b + name_run (drop b t) ≡ name_run t
+  pub owed : run (owes []) (front t) ≡ run (owes []) (front (drop b t))

@@ -19,9 +19,9 @@ head_of t =
     (pick (begins_with (head_with 0x6B) t) (Some 0x6B)
     None))
 
--- the end of the name that begins at `from`, where the bytes before the first forbidden one are a name
-unfoldable pub name_read : List ℕ → ℕ → Option ℕ
-name_read s from = pick (is_name (front (drop from s))) (Some (from + name_run (drop from s))) None
+-- how long the name at the front of t is, where the bytes before the first forbidden one are a name
+unfoldable pub name_read : List ℕ → Option ℕ
+name_read t = pick (is_name (front t)) (Some (name_run t)) None
 
 -- where the first name of the line at `at` ends, and its value
 abbrev pub name_end : List ℕ → ℕ → ℕ

@@ -6,7 +6,7 @@ ghost use Rattle.sheet.specs.Forms.{sign_i, letter_i, syllable_nu, is_kind, is_m
 ghost use Rattle.sheet.specs.Steps.{head_of, step_at};
 
 use crate::letters::are_letters;
-use crate::name::{is_name, read_name, run_end};
+use crate::name::{is_name, read_name, run_len};
 use runs::{begins_with, ends_with, same};
 
 // The first letter of the form whose head stands at the front of t, if one does.
@@ -76,12 +76,13 @@ impl Cursor {
         }
         let letter = head_at(&s[at..])?;
         let from = at + 3;
-        let name_end = read_name(s, from)?;
+        let name_len = read_name(&s[from..])?;
+        let name_end = from + name_len;
         if !begins_with(&s[name_end..], b" (") {
             return None;
         }
         let value_from = name_end + 2;
-        let value_end = run_end(s, value_from);
+        let value_end = value_from + run_len(&s[value_from..]);
         if !begins_with(&s[value_end..], b"))\n") {
             return None;
         }

@@ -20,11 +20,11 @@ returns-then-len-gt65536-clause-tells g c =
 pub returns-clause-keeps : goal.returns-clause-keeps
 returns-clause-keeps g c =
     told_before c.report.result (told_now _ _ _ kept_printed 65537 c.in_ok-write_all.ensures.bytes
-    (whole_front c.kept_of-size.ensures ∙ ap kept_of c.deref.ensures.value ∙ sym (short_kept c.in_ok-sheet.sheet.items (omega (arith, c.if-len-gt65536.false, c.len.ensures))))
+    (whole_front c.put_kept-size.ensures ∙ ap kept_of c.deref.ensures.value ∙ sym (short_kept c.in_ok-sheet.sheet.items (omega (arith, c.if-len-gt65536.false, c.len.ensures))))
     c.in_ok-sheet.ensures kept_front)
 
 pub returns-clause-tells : goal.returns-clause-tells
 returns-clause-tells g c =
     told_of c.report.result _ _ _ report_told 65537 c.report.ensures
-    (ap report_of c.deref-2.ensures.value ∙ sym (short_told c.in_ok-sheet.sheet.items (omega (arith, c.if-len-gt65536.false, c.len.ensures))))
+    (ap report_of c.deref.ensures.value ∙ sym (short_told c.in_ok-sheet.sheet.items (omega (arith, c.if-len-gt65536.false, c.len.ensures))))
     c.in_ok-sheet.ensures told_front

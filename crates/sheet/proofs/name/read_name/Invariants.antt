@@ -10,7 +10,6 @@ use Rattle.sheet.specs.Forms.{front}
 use Rattle.sheet.proofs.name.read_name.Given as goal
 
 abbrev pub invariant-loop-i : goal.invariant-loop-i
-invariant-loop-i l = (l.from ≤ l.i)
-    × (l.i ≤ length l.s)
-    × (l.i + name_run (drop l.i l.s) ≡ l.from + name_run (drop l.from l.s))
-    × (run (owes []) (front (drop l.from l.s)) ≡ run (owed_of l.state) (front (drop l.i l.s)))
+invariant-loop-i l = (l.i ≤ length l.t)
+    × (l.i + name_run (drop l.i l.t) ≡ name_run l.t)
+    × (run (owes []) (front l.t) ≡ run (owed_of l.state) (front (drop l.i l.t)))

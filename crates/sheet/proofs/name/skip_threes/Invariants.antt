@@ -4,7 +4,7 @@ use Rattle.sheet.proofs.Fronts.{Ahead}
 use Rattle.sheet.proofs.name.skip_threes.Given as goal
 
 abbrev pub invariant-loop-rest : goal.invariant-loop-rest
-invariant-loop-rest l = Ahead l.s l.from l.rest
+invariant-loop-rest l = Ahead l.t l.rest
 
 abbrev pub decreases-loop-rest : goal.decreases-loop-rest
 decreases-loop-rest l = length l.rest

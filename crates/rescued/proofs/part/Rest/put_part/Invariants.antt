@@ -1,8 +1,8 @@
--- `part::report_part` meets its contract: what is put so far and what is to come are all of it. Assumes nothing.
+-- `part::Rest::put_part` meets its contract: what is put so far and what is to come are all of it. Assumes nothing.
 use Prim.Native.Nat.{◌-◌}
 use lib.ListN.{length}
 use Rattle.rescued.proofs.Parting.{Part-way}
-use Rattle.rescued.proofs.part.report_part.Given as goal
+use Rattle.rescued.proofs.part.Rest.put_part.Given as goal
 
 abbrev pub invariant-loop-walk : goal.invariant-loop-walk
 invariant-loop-walk l = Part-way l.sheet l.initial.walk l.walk l.initial.w l.w

@@ -1,14 +1,14 @@
--- `part::report_part` meets its contract: what is put so far and what is to come are all of it. Assumes nothing.
+-- `part::Rest::put_part` meets its contract: what is put so far and what is to come are all of it. Assumes nothing.
 use Rattle.std.proofs.Common.{arith, sym, refl}
 use Rattle.writing.proofs.Puts.{put_into, same_buffer}
 use Rattle.writing.proofs.Wholes.{front}
 use Rattle.rescued.proofs.Parting.{way_more, way_parted}
-use Rattle.rescued.proofs.part.report_part.Goals as goal
-use Rattle.rescued.proofs.part.report_part.Goals.{then-loop-walk-test+else-at-le4072, else-loop-walk-test}
+use Rattle.rescued.proofs.part.Rest.put_part.Goals as goal
+use Rattle.rescued.proofs.part.Rest.put_part.Goals.{then-loop-walk-test+else-at-le4072, else-loop-walk-test}
 
 pub loop-walk-preserved : goal.loop-walk-preserved
 loop-walk-preserved c =
-    way_more _ _ _ _ _ c.loop-walk.invariant c.requires.0 c.loop-walk-test.true (omega arith) _ c.next_stretch-reached.ensures _ c.put_cut.ensures
+    way_more _ _ _ _ _ c.loop-walk.invariant c.args.self.now.torn.short c.loop-walk-test.true (omega arith) _ c.next_stretch-reached.ensures _ c.put_cut.ensures
 
 pub shape_of-out : goal.shape_of-out
 shape_of-out c = let k = c.loop-walk.invariant in sym (same_buffer k.done c.new-w.ensures k.put)
@@ -17,4 +17,4 @@ pub returns : goal.returns
 returns c =
     let k = c.loop-walk.invariant in
     let a = front {text = k.done} (put_into c.loop-walk.w c.new-w.ensures k.put c.at-2.ensures (λ _. refl)) (omega arith) (omega arith) in
-    way_parted _ _ _ _ _ k a (elim c.loop-walk-test.branch [ then-loop-walk-test+else-at-le4072 w ↦ λ h. omega arith | else-loop-walk-test w ↦ λ h. omega arith ])
+    (refl, way_parted _ _ _ _ _ k a (elim c.loop-walk-test.branch [ then-loop-walk-test+else-at-le4072 w ↦ λ h. omega arith | else-loop-walk-test w ↦ λ h. omega arith ]))
