@@ -18,8 +18,8 @@ use Rattle.sheet.proofs.Forms.{written-length, form_shape, line-fits, behind}
 use Rattle.sheet.specs.Walks.{form_reached, reached}
 use Rattle.sheet.specs.declared.walk.Walk.{Walk}
 use Rattle.sheet.specs.declared.line.Form.{Form}
-use Rattle.sheet.specs.declared.walk.LineFault.{LineFault}
-use Rattle.sheet.specs.declared.walk.LineFault.TheVariants.{NotAbove, NoForm}
+use Rattle.sheet.specs.declared.line.LineFault.{LineFault}
+use Rattle.sheet.specs.declared.line.LineFault.TheVariants.{NotAbove, NoForm}
 use Rattle.sheet.proofs.Walks.{key-told, at_first}
 use Rattle.refusals.specs.declared.Refusal.TheVariants.{NoSingleForm}
 use Rattle.corrected.specs.Sets.{is_single}

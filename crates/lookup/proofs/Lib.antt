@@ -7,4 +7,3 @@ pub mod Edges
 pub mod Begun
 pub mod Parts
 pub mod Promises
-pub mod Readied

@@ -1,26 +1,14 @@
 -- What the entries hand back and leave, from what was found. The proofs of entry.rt cite these. Assumes nothing.
 use Rattle.std.specs.Prelude.{Err, Ok, Result}
-use Prim.Native.Nat.{ℕ, ◌≤◌}
-use native.Mathlib.Omega.{arith}
-use mathlib.Core.Path.{◌≡◌, refl, sym, ap, ◌∙◌}
-use mathlib.Core.List.{List, ◌++◌}
-use lib.ListN.{length, take, drop, length-append}
-use lib.Seq.{take_at}
+use Prim.Native.Nat.{ℕ}
+use mathlib.Core.Path.{◌≡◌, refl, ap, ◌∙◌}
+use mathlib.Core.List.{List}
+use lib.ListN.{length}
 use Rattle.refusals.specs.Refusals.{room_for, output_by}
 use Rattle.refusals.specs.declared.Refusal.{Refusal}
 use Rattle.sheet.specs.Inputs.{by_sheet}
 use Rattle.sheet.specs.Lines.{sheet_check}
-use Rattle.referred.specs.declared.Finding.{Finding}
-use Rattle.referred.specs.Report.{findings_of}
 use Rattle.referred.specs.Answers.{answered_by}
-
--- n findings stand at the front of `found`, which was `old` before
-module _ (s : List ℕ) (old found : List Finding) (n : ℕ) (e : n ≡ length (findings_of s)) (f : found ≡ findings_of s ++ drop n old) where
-  pub inside : n ≤ length found
-  inside = omega (arith, ap length f, length-append (findings_of s) (drop n old), e)
-
-  pub front : take n found ≡ findings_of s
-  front = ap (take n) f ∙ take_at (findings_of s) (drop n old) n (sym e)
 
 -- what is said of the sheet decides
 module _ {T : Type 0} (s : List ℕ) (answer old new : List T) where

@@ -14,7 +14,6 @@ use Rattle.sheet.specs.Forms.{is_form, key, key_of}
 use Rattle.sheet.specs.Lines.{starts_of, line_at, sheet_check}
 use Rattle.sheet.proofs.Accepted.{GoesUp, accepted_up}
 use Rattle.sheet.specs.Steps.{name_end}
-use Rattle.referred.proofs.Refers.{name-cut}
 use Rattle.referred.specs.declared.Fault.{Fault}
 use Rattle.referred.specs.declared.Fault.TheVariants.{Missing, NotVerb, Unused}
 use Rattle.referred.specs.declared.Finding.{Finding}

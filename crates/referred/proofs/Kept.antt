@@ -2,7 +2,7 @@
 use Rattle.std.specs.Prelude.{Some, None}
 use Prim.Native.Nat.{ℕ, ◌+◌, ◌≤◌, ◌<◌}
 use native.Mathlib.Omega.{arith}
-use mathlib.Core.Path.{◌≡◌, refl, sym, ap, ◌∙◌}
+use mathlib.Core.Path.{◌≡◌, sym, ap, ◌∙◌}
 use mathlib.Core.List.{List, ◌++◌, append-nil}
 use lib.ListN.{length, take, drop, get_or, set, length-set, take-append-drop}
 use lib.Seq.{length-take-le}
@@ -21,9 +21,6 @@ pub record Kept (s starts : List ℕ) (old out : List Finding) (n i : ℕ) : Typ
   pub rest : drop n out ≡ drop n old
 
 module _ (s starts : List ℕ) (old : List Finding) where
-  pub kept_first : Kept s starts old old 0 0
-  kept_first = record { inside = omega arith; few = omega arith; size = refl; all = refl; rest = refl }
-
   module _ (out : List Finding) (n i : ℕ) (k : Kept s starts old out n i) where
     pub kept_none : i < length starts → fault_at s (get_or starts i 0) ≡ None → Kept s starts old out n (i + 1)
     kept_none h z =

@@ -15,20 +15,15 @@ use Rattle.runs.specs.Runs.{pick, cmp}
 use Rattle.std.specs.declared.cmp.Ordering.{Ordering}
 use Rattle.runs.proofs.Ordered.{is_equal, same_cmp}
 use Rattle.tables.specs.Tables.{affixes}
-use Rattle.sheet.specs.Limits.{sheet_limit}
 use Rattle.sheet.specs.Letters.{letters_of}
 use Rattle.sheet.specs.Forms.{is_form, key, key_of}
 use Rattle.sheet.specs.Lines.{line_at}
-use Rattle.sheet.specs.Steps.{name_end}
-use Rattle.sheet.specs.Replies.{Indexed, reply}
+use Rattle.sheet.specs.Replies.{reply}
 use Rattle.sheet.specs.declared.letters.Letters.{Letters}
 use Rattle.sheet.specs.declared.form.FormAt.{FormAt}
-use Rattle.sheet.proofs.Forms.{line_long, line-fits, name-text}
-use Rattle.sheet.proofs.Accepted.{accepted-short}
 use Rattle.lookup.specs.Answers.{ValueOf}
 use Rattle.lookup.specs.declared.answers.Spot.{Spot}
 use Rattle.lookup.proofs.Parts.{read}
-use Rattle.lookup.proofs.Settled.{indexed-form}
 use Rattle.referred.specs.declared.Fault.{Fault}
 use Rattle.referred.specs.declared.Fault.TheVariants.{NotVerb, Unused}
 use Rattle.referred.specs.Report.{verb_fault, is_text, fault_of, fault_at}
@@ -74,14 +69,3 @@ module _ (s : List ℕ) (l : FormAt) (q : l.sheet.now ≡ s) (n : ℕ) (e : n �
   unfolding fault_of
   no-fault a b =
       sym (rw (ne_eqb (line_at s l.at).letter 0x6C (λ z. a (sym letter ∙ z)), ne_eqb (line_at s l.at).letter 0x6B (λ z. b (sym letter ∙ z))))
-
-pub name-cut : (s : List ℕ) (at : ℕ) → is_form (drop at s) ≡ true → (end : ℕ) → end ≡ name_end s at → take (end - (at + 3)) (drop (at + 3) s) ≡ (line_at s at).name
-name-cut s at h end p =
-    let n : end - (at + 3) ≡ length (line_at s at).name = omega arith in
-    ap (λ (x : ℕ). take x (drop (at + 3) s)) n ∙ name-text s at h
-
--- every line of an accepted sheet begins before its limit
-pub start_small : (s starts : List ℕ) (i : ℕ) → Indexed s starts → i < length starts → get_or starts i 0 < sheet_limit
-start_small s starts i x h =
-    let f = indexed-form s starts i x h in
-    omega (arith, line_long s (get_or starts i 0) f, line-fits s (get_or starts i 0) f, accepted-short s x.accepted)

@@ -18,8 +18,8 @@ use Rattle.sheet.specs.Steps.{value_end}
 use Rattle.sheet.specs.Walks.{key_before, Standing, starts_ahead, form_reached, reached}
 use Rattle.sheet.specs.declared.walk.Walk.{Walk}
 use Rattle.sheet.specs.declared.line.Form.{Form}
-use Rattle.sheet.specs.declared.walk.LineFault.{LineFault}
-use Rattle.sheet.specs.declared.walk.LineFault.TheVariants as step
+use Rattle.sheet.specs.declared.line.LineFault.{LineFault}
+use Rattle.sheet.specs.declared.line.LineFault.TheVariants as step
 use Rattle.sheet.proofs.Forms.{line-fits, line_long}
 use Rattle.sheet.proofs.Lines.{no_lines, some-line, next_line}
 use Rattle.writing.proofs.Sizes.{digit-size, number_size}

@@ -17,8 +17,8 @@ use Rattle.sheet.specs.Steps.{value_end}
 use Rattle.sheet.specs.Walks.{key_before, Standing, reached}
 use Rattle.sheet.specs.declared.walk.Walk.{Walk}
 use Rattle.sheet.specs.declared.line.Form.{Form}
-use Rattle.sheet.specs.declared.walk.LineFault.{LineFault}
-use Rattle.sheet.specs.declared.walk.LineFault.TheVariants as step
+use Rattle.sheet.specs.declared.line.LineFault.{LineFault}
+use Rattle.sheet.specs.declared.line.LineFault.TheVariants as step
 use Rattle.rescued.specs.declared.Fate.{Fate}
 use Rattle.rescued.specs.declared.Fate.TheVariants.{Kept, NoForm, NoOrder}
 use Rattle.rescued.specs.declared.walk.Reach.{Reach}

@@ -7,7 +7,8 @@ ghost use Rattle.rescued.specs.Places.{line_end, dropped_at, Stepped};
 
 use crate::Fate;
 use runs::find;
-use sheet::walk::{LineFault, Walk};
+use sheet::line::LineFault;
+use sheet::walk::Walk;
 use writing::Writer;
 
 // A stretch that was reached: what becomes of it, and the walk from behind it, which begins where it ends.

@@ -7,8 +7,8 @@ use mathlib.Core.Bool.{Bool, true, false}
 use mathlib.Core.List.{List, [], ◌∷◌, ◌++◌, append_assoc}
 use lib.ListN.{length, drop, get_or, drop_of_length-le}
 use lib.Seq.{drop-cons, drop-drop}
-use lib.Dec.{eqb}
-use borrow.Author.Tests.{ne_eqb}
+use lib.Dec.{eqb, leb}
+use borrow.Author.Tests.{ne_eqb, leb-true, leb-false}
 use Rattle.runs.specs.Runs.{pick}
 use Rattle.text.specs.Names.{forbidden, holds_forbidden}
 use Rattle.sheet.specs.Forms.{Entry, written, is_meant, is_form}
@@ -16,7 +16,9 @@ use Rattle.sheet.specs.Lines.{starts_from, line_at}
 use Rattle.sheet.specs.Steps.{value_end, form_at, step_at}
 use Rattle.sheet.specs.declared.line.Cursor.{Cursor}
 use Rattle.sheet.specs.declared.line.Form.{Form}
-use Rattle.std.specs.Prelude.{Option, Some, None}
+use Rattle.sheet.specs.declared.line.LineFault.{LineFault}
+use Rattle.sheet.specs.declared.line.LineFault.TheVariants.{NoForm, NotAbove}
+use Rattle.std.specs.Prelude.{Option, Some, None, Result, Ok, Err}
 use Rattle.sheet.proofs.Forms.{written-length, form-named, form_meant, name-plain, value-plain, line-bytes, line-fits}
 
 -- a byte that may stand in a name ends no line
@@ -75,14 +77,18 @@ module _ (s : List ℕ) (at : ℕ) where
       ∙ rw (r, n)
 
   -- what a step of the reader tells
-  abbrev pub Told : Option (Form Cursor) → Type 0
-  Told None = is_form (drop at s) ≡ false
-  Told (Some form) = (at < length s) × (is_form (drop at s) ≡ true) × (form ≡ form_at s at)
+  abbrev pub Told : Result (Option (Form Cursor)) LineFault → Type 0
+  Told (Ok None) = length s ≤ at
+  Told (Err NoForm) = (at < length s) × (is_form (drop at s) ≡ false)
+  Told (Err NotAbove) = ⊥
+  Told (Ok (Some form)) = (at < length s) × (is_form (drop at s) ≡ true) × (form ≡ form_at s at)
 
-  pub step_told : (line : Option (Form Cursor)) → line ≡ step_at s at → Told line
+  pub step_told : (line : Result (Option (Form Cursor)) LineFault) → line ≡ step_at s at → Told line
   unfolding step_at
-  step_told line q = subst Told (sym q) (by (is_form (drop at s)) refl)
+  step_told line q = subst Told (sym q) (by (leb (length s) at) (is_form (drop at s)) refl refl)
     where
-      by : (c : Bool) → is_form (drop at s) ≡ c → Told (pick c (Some (form_at s at)) None)
-      by true r = (omega (arith, line-fits s at r), r, refl)
-      by false r = r
+      by : (b c : Bool) → leb (length s) at ≡ b → is_form (drop at s) ≡ c
+          → Told (pick b (Ok None) (pick c (Ok (Some (form_at s at))) (Err NoForm)))
+      by true c p r = leb-true _ _ p
+      by false true p r = (leb-false _ _ p, r, refl)
+      by false false p r = (leb-false _ _ p, r)

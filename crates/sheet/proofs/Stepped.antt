@@ -1,35 +1,62 @@
 -- A line's places in the sheet, and what the reader's step gives at them. The proofs of the step and of the sheet's check cite these.
 -- Assumes nothing.
-use Prim.Native.Nat.{ℕ, ◌+◌, ◌-◌, ◌≤◌}
+use Prim.Native.Nat.{ℕ, ◌+◌, ◌-◌, ◌≤◌, ◌<◌}
 use native.Mathlib.Omega.{arith}
 use mathlib.Core.Path.{◌≡◌, refl, sym, ap, subst, ◌∙◌}
 use mathlib.Core.Bool.{Bool, true, false}
 use mathlib.Core.List.{List}
 use lib.ListN.{length, take, drop, length-drop}
 use lib.Seq.{drop-drop}
+use lib.Dec.{leb}
+use borrow.Author.Tests.{le-leb, lt-leb}
 use Rattle.runs.specs.Runs.{pick, begins_with}
 use Rattle.text.specs.Names.{name_run}
 use Rattle.sheet.specs.Forms.{Entry, front, entry_of, is_form, is_name}
 use Rattle.sheet.specs.Lines.{line_at}
-use Rattle.sheet.specs.Steps.{head_with, name_end, value_end, name_read, step_at}
-use Rattle.std.specs.Prelude.{Option, Some, None}
+use Rattle.sheet.specs.Steps.{head_with, name_end, value_end, name_read, form_at, form_there, step_at}
+use Rattle.std.specs.Prelude.{Option, Some, None, Result, Ok, Err}
+use Rattle.sheet.specs.declared.line.LineFault.{LineFault}
+use Rattle.sheet.specs.declared.line.LineFault.TheVariants.{NoForm}
+use Rattle.sheet.specs.declared.line.Form.{Form}
+use Rattle.sheet.specs.declared.line.Cursor.{Cursor}
 use Rattle.sheet.proofs.Fronts.{front_length, run_inside}
 use Rattle.sheet.proofs.Heads.{letter_is}
 use Rattle.sheet.proofs.Forms.{line-fits}
 use Rattle.sheet.proofs.Shape.{rest_all}
 
 module _ (s : List ℕ) (at : ℕ) where
-  pub at_no_form : is_form (drop at s) ≡ false → None ≡ step_at s at
-  unfolding step_at
+  pub at_no_form : is_form (drop at s) ≡ false → None ≡ form_there s at
+  unfolding form_there
   at_no_form e = rw e
 
   -- at the end no form stands
-  pub at_end : length s ≤ at → None ≡ step_at s at
+  pub at_end : length s ≤ at → None ≡ form_there s at
   at_end h = by (is_form (drop at s)) refl
     where
-      by : (b : Bool) → is_form (drop at s) ≡ b → None ≡ step_at s at
+      by : (b : Bool) → is_form (drop at s) ≡ b → None ≡ form_there s at
       by true e = absurd (omega (arith, line-fits s at e))
       by false e = at_no_form e
+
+  -- the step itself: the end, no form, or the form
+  pub step_end : length s ≤ at → Ok None ≡ step_at s at
+  unfolding step_at
+  step_end h = rw (le-leb _ _ h)
+
+  pub step_none : at < length s → None ≡ form_there s at → Err NoForm ≡ step_at s at
+  unfolding step_at form_there
+  step_none h e = rw (lt-leb _ _ h) (by (is_form (drop at s)) e)
+    where
+      by : (b : Bool) → None ≡ pick b (Some (form_at s at)) None → Err NoForm ≡ pick b (Ok (Some (form_at s at))) (Err NoForm)
+      by true e = let z : ◌≡◌ {A = ℕ} 0 1 = cc in absurd (omega arith)
+      by false e = refl
+
+  pub step_some : (f : Form Cursor) → at < length s → Some f ≡ form_there s at → Ok (Some f) ≡ step_at s at
+  unfolding step_at form_there
+  step_some f h e = rw (lt-leb _ _ h) (by (is_form (drop at s)) e)
+    where
+      by : (b : Bool) → Some f ≡ pick b (Some (form_at s at)) None → Ok (Some f) ≡ pick b (Ok (Some (form_at s at))) (Err NoForm)
+      by true e = ap (λ (o : Option (Form Cursor)). Ok o) e
+      by false e = let z : ◌≡◌ {A = ℕ} 0 1 = cc in absurd (omega arith)
 
   -- the first name ends at e, and the value at f
   module _ (e f : ℕ) (pe : e ≡ at + 3 + name_run (drop (at + 3) s)) (pf : f ≡ e + 2 + name_run (drop (e + 2) s)) where
@@ -70,8 +97,8 @@ module _ (s : List ℕ) (at : ℕ) where
         let m = name_end_is in
         omega arith
 
-    pub at_form : (l : ℕ) → (line_at s at).letter ≡ l → is_form (drop at s) ≡ true → Some (record { letter = l; name_end = e; value_end = f; next = record { at = f + 3 } }) ≡ step_at s at
-    unfolding step_at
+    pub at_form : (l : ℕ) → (line_at s at).letter ≡ l → is_form (drop at s) ≡ true → Some (record { letter = l; name_end = e; value_end = f; next = record { at = f + 3 } }) ≡ form_there s at
+    unfolding form_there
     at_form l p q = rw (q, sym value_end_is, sym name_end_is, sym p)
 
   pub name_good : is_name (front (drop (at + 3) s)) ≡ is_name (line_at s at).name

@@ -12,17 +12,17 @@ use Rattle.runs.specs.Runs.{pick, cmp, is_less}
 use Rattle.sheet.specs.Limits.{sheet_limit, shortest_line}
 use Rattle.sheet.specs.Forms.{is_form, key, key_of}
 use Rattle.sheet.specs.Lines.{fault_at, starts_from, line_at, judged, sheet_check}
-use Rattle.sheet.specs.Steps.{name_end, form_at}
+use Rattle.sheet.specs.Steps.{name_end, form_at, step_at}
 use Rattle.sheet.specs.declared.line.Cursor.{Cursor}
 use Rattle.sheet.specs.Walks.{key_before, Standing, starts_ahead, form_reached, reached}
 use Rattle.sheet.specs.declared.walk.Walk.{Walk}
 use Rattle.sheet.specs.declared.line.Form.{Form}
-use Rattle.sheet.specs.declared.walk.LineFault.{LineFault}
-use Rattle.sheet.specs.declared.walk.LineFault.TheVariants.{NoForm, NotAbove}
+use Rattle.sheet.specs.declared.line.LineFault.{LineFault}
+use Rattle.sheet.specs.declared.line.LineFault.TheVariants.{NoForm, NotAbove}
 use Rattle.sheet.specs.declared.check.SheetFault.{SheetFault}
 use Rattle.sheet.specs.declared.check.SheetFault.TheVariants.{TooLong, NotAbove as NotAboveAt, NoForm as NoFormAt}
 use Rattle.sheet.proofs.Forms.{line-fits, line_long, name-text}
-use Rattle.sheet.proofs.Lines.{no_lines, some-line, next_line}
+use Rattle.sheet.proofs.Lines.{no_lines, some-line, next_line, step_told}
 
 -- what is said of the lines from the walk's place on
 abbrev pub judged_ahead : List ℕ → Walk → Result (Unit {0}) SheetFault
@@ -124,6 +124,11 @@ module _ (s : List ℕ) (w : Walk) where
       → Ok (Some (form_reached s w)) ≡ reached s w
   unfolding reached
   reached-form h e f = rw (lt-leb _ _ h, e, f)
+
+  -- what the reader refuses the walk refuses
+  pub reached_fault : (fault : LineFault) → Err fault ≡ step_at s w.at → Err fault ≡ reached s w
+  reached_fault NoForm e = let t = step_told s w.at (Err NoForm) e in reached-no-form t.0 t.1
+  reached_fault NotAbove e = absurd (step_told s w.at (Err NotAbove) e)
 
   -- a form that the reader gave, with the walk from behind it
   abbrev pub going_on : Form Cursor → Form Walk

@@ -1,11 +1,13 @@
 -- The reader's step from line to line (document 01, "The sheet"): what stands at a place. Assumes nothing.
-use Rattle.std.specs.Prelude.{ℕ, ◌+◌, List, [], ◌∷◌, length, drop, Option, Some, None}
+use Rattle.std.specs.Prelude.{ℕ, ◌+◌, List, [], ◌∷◌, length, drop, leb, Option, Some, None, Result, Ok, Err}
 use Rattle.runs.specs.Runs.{pick, begins_with}
 use Rattle.text.specs.Names.{name_run}
 use Rattle.sheet.specs.Forms.{front, is_name, is_form}
 use Rattle.sheet.specs.Lines.{line_at}
 use Rattle.sheet.specs.declared.line.Cursor.{Cursor}
 use Rattle.sheet.specs.declared.line.Form.{Form}
+use Rattle.sheet.specs.declared.line.LineFault.{LineFault}
+use Rattle.sheet.specs.declared.line.LineFault.TheVariants.{NoForm}
 
 -- the head of a form: a parenthesis, its first letter, a space
 abbrev pub head_with : ℕ → List ℕ
@@ -35,5 +37,9 @@ abbrev pub form_at : List ℕ → ℕ → Form Cursor
 form_at s at = record { letter = (line_at s at).letter; name_end = name_end s at; value_end = value_end s at; next = record { at = value_end s at + 3 } }
 
 -- the form that stands there, where one does
-unfoldable pub step_at : List ℕ → ℕ → Option (Form Cursor)
-step_at s at = pick (is_form (drop at s)) (Some (form_at s at)) None
+unfoldable pub form_there : List ℕ → ℕ → Option (Form Cursor)
+form_there s at = pick (is_form (drop at s)) (Some (form_at s at)) None
+
+-- the line at `at`: nothing at the end of the sheet, a form, or no form
+unfoldable pub step_at : List ℕ → ℕ → Result (Option (Form Cursor)) LineFault
+step_at s at = pick (leb (length s) at) (Ok None) (pick (is_form (drop at s)) (Ok (Some (form_at s at))) (Err NoForm))

@@ -6,8 +6,8 @@ use Rattle.sheet.specs.Lines.{line_at, starts_from}
 use Rattle.sheet.specs.Steps.{name_end, value_end}
 use Rattle.sheet.specs.declared.walk.Walk.{Walk}
 use Rattle.sheet.specs.declared.line.Form.{Form}
-use Rattle.sheet.specs.declared.walk.LineFault.{LineFault}
-use Rattle.sheet.specs.declared.walk.LineFault.TheVariants.{NoForm, NotAbove}
+use Rattle.sheet.specs.declared.line.LineFault.{LineFault}
+use Rattle.sheet.specs.declared.line.LineFault.TheVariants.{NoForm, NotAbove}
 
 -- the key of the line before; no key is below the empty one, so the first line is above what stands before it
 abbrev pub key_before : List ℕ → Option ℕ → List ℕ

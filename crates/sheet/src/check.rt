@@ -3,7 +3,8 @@ ghost use Rattle.std.specs.Prelude.{◌≡◌};
 ghost use Rattle.sheet.specs.Lines.{refusal_of, fault_at, sheet_check};
 
 use crate::limits::SHEET_BYTES;
-use crate::walk::{LineFault, Walk};
+use crate::line::LineFault;
+use crate::walk::Walk;
 use refusals::Refusal;
 
 // Why a sheet is refused: over 65,536 bytes (4), or by its first faulty line, with that line's first byte: no form (5), or a form not above

@@ -3,7 +3,7 @@ ghost use Rattle.std.specs.Prelude.{◌≡◌, false, ◌||◌};
 ghost use Rattle.runs.specs.Runs.{ends_in};
 ghost use Rattle.text.specs.Names.{holds_forbidden};
 ghost use Rattle.sheet.specs.Forms.{sign_i, letter_i, syllable_nu, is_kind, is_meant};
-ghost use Rattle.sheet.specs.Steps.{head_of, step_at};
+ghost use Rattle.sheet.specs.Steps.{head_of, form_there, step_at};
 
 use crate::letters::are_letters;
 use crate::name::{is_name, read_name, run_len};
@@ -65,10 +65,17 @@ pub struct Form<P> {
     pub next: P,
 }
 
+// Why a line is refused: no form, or a form not above the one before.
+#[derive(Clone, Copy, Debug, PartialEq, Eq)]
+pub enum LineFault {
+    NoForm,
+    NotAbove,
+}
+
 impl Cursor {
     // The form that begins at the cursor, none where no form stands there, as at the sheet's end.
-    pub fn step(self, s: &[u8]) -> Option<Form<Cursor>>
-        ensures { result ≡ step_at s.now self.at }
+    fn form(self, s: &[u8]) -> Option<Form<Cursor>>
+        ensures { result ≡ form_there s.now self.at }
     {
         let at = self.at;
         if s.len() <= at {
@@ -96,5 +103,15 @@ impl Cursor {
             value_end,
             next: Cursor { at: end },
         })
+    }
+    // The form that begins at the cursor, none at the sheet's end; or that the line is no form.
+    pub fn step(self, s: &[u8]) -> Result<Option<Form<Cursor>>, LineFault>
+        ensures { result ≡ step_at s.now self.at }
+    {
+        if s.len() <= self.at {
+            return Ok(None);
+        }
+        let form = self.form(s).ok_or(LineFault::NoForm)?;
+        Ok(Some(form))
     }
 }

@@ -6,7 +6,7 @@ ghost use Rattle.sheet.specs.Forms.{key_of};
 ghost use Rattle.sheet.specs.Walks.{key_before, Standing, reached};
 
 use crate::form::FormAt;
-use crate::line::{Cursor, Form};
+use crate::line::{Cursor, Form, LineFault};
 use std::cmp::Ordering;
 
 // A place in the sheet at which a line begins, and the last line that the next one must be above.
@@ -14,13 +14,6 @@ use std::cmp::Ordering;
 pub struct Walk {
     pub at: usize,
     pub last: Option<usize>,
-}
-
-// Why a line is refused: no form, or a form not above the one before.
-#[derive(Clone, Copy, Debug, PartialEq, Eq)]
-pub enum LineFault {
-    NoForm,
-    NotAbove,
 }
 
 // Whether the line before, if there is one, stands below the key of this letter and name.
@@ -42,10 +35,9 @@ impl Walk {
         ensures { result ≡ reached s.now self }
     {
         let at = self.at;
-        if s.len() <= at {
+        let Some(form) = (Cursor { at }).step(s)? else {
             return Ok(None);
-        }
-        let form = (Cursor { at }).step(s).ok_or(LineFault::NoForm)?;
+        };
         let from = at + 3;
         if !is_above(s, self.last, form.letter, &s[from..form.name_end]) {
             return Err(LineFault::NotAbove);

@@ -10,8 +10,8 @@ use Rattle.sheet.specs.Lines.{starts_of, fault_at, sheet_check}
 use Rattle.sheet.specs.Walks.{starts_ahead}
 use Rattle.std.proofs.Common.{rules}
 use Rattle.std.proofs.lemmas.Result.{err_from_is_err_and}
-use Rattle.sheet.specs.declared.walk.LineFault.{LineFault}
-use Rattle.sheet.specs.declared.walk.LineFault.TheVariants as line
+use Rattle.sheet.specs.declared.line.LineFault.{LineFault}
+use Rattle.sheet.specs.declared.line.LineFault.TheVariants as line
 use Rattle.sheet.proofs.Walks.{Turn, Formed, turn, faults_mapped, ok_left, check_long, check_walk}
 use Rattle.lookup.specs.Starts.{Room}
 use Rattle.lookup.specs.Stored.{Counted, counted, stored_in, Stored}
