@@ -37,5 +37,5 @@ returns-in-Some c =
     let a = c.args in
     let h = goal.at.returns-in-Some c in
     let e = ap (λ (l : List Classified). rows_filled row_width row_bytes l a.out.now) (c.as_slice.ensures.value ∙ c.classify_rows.ensures)
-    ∙ filled-rows a.word.now a.sheet.now.bytes.now a.out.now (accepted h.Start) _ (sym c.in-Some.ensures.0 ∙ kept_is h.After-keep_readings) in
+    ∙ filled-rows a.word.now a.sheet.now.bytes.now a.out.now (accepted h.Start) _ (sym c.in-Some.ensures ∙ kept_is h.After-keep_readings) in
     both e c.put_rows.ensures
