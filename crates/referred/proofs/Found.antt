@@ -20,7 +20,6 @@ use Rattle.referred.specs.declared.Finding.{Finding}
 use Rattle.referred.specs.Report.{is_text, fault_at, found, findings_at, findings_of, before, behind, finding_line, finding_lines}
 use Rattle.referred.specs.Codes.{code_for, codes_of, fault_in}
 
-
 -- line i, and those to come
 module _ (s starts : List ℕ) (i : ℕ) (h : i < length starts) where
   pub found_none : fault_at s (get_or starts i 0) ≡ None → findings_at s (drop i starts) ≡ findings_at s (drop (i + 1) starts)
