@@ -3,35 +3,33 @@
 #![tactic(auto)]
 
 use blocks::first_case;
-use sheet::check::{SheetFault, check_sheet};
+use refusals::Refusal;
+use sheet::check::check_sheet;
 use std::io;
 use std::io::{BufWriter, Read, Write};
-use text::word::{WordFault, check_word};
+use text::word::check_word;
 
-// Writes what is said of a sheet.
-fn say_sheet<W: Write>(out: &mut W, sheet: &[u8]) -> io::Result<()> {
-    match check_sheet(sheet) {
-        Ok(()) => writeln!(out, "0"),
-        Err(SheetFault::TooLong) => writeln!(out, "4"),
-        Err(SheetFault::NoForm(at)) => writeln!(out, "5 {at}"),
-        Err(SheetFault::NotAbove(at)) => writeln!(out, "6 {at}"),
-    }
+// What is said of a word and a sheet: the word is checked first.
+fn said_of(word: &[u8], sheet: &[u8]) -> Result<(), Refusal> {
+    check_word(word)?;
+    Ok(check_sheet(sheet)?)
 }
 
-// Writes what is said of a word and a sheet: the lowest number that applies.
-fn say_both<W: Write>(out: &mut W, word: &[u8], sheet: &[u8]) -> io::Result<()> {
-    match check_word(word) {
-        Ok(()) => say_sheet(out, sheet),
-        Err(WordFault::TooLong) => writeln!(out, "1"),
-        Err(WordFault::NotUtf8) => writeln!(out, "2"),
-        Err(WordFault::Forbidden) => writeln!(out, "3"),
+// Writes it.
+fn say<W: Write>(out: &mut W, said: Result<(), Refusal>) -> io::Result<()> {
+    match said {
+        Ok(()) => writeln!(out, "0"),
+        Err(refusal) => match refusal.place() {
+            Some(at) => writeln!(out, "{} {at}", refusal.number()),
+            None => writeln!(out, "{}", refusal.number()),
+        },
     }
 }
 
 fn replay<W: Write>(out: &mut W, s: &[u8]) -> io::Result<()> {
     let mut rest = s;
     while let Some(case) = first_case(rest) {
-        say_both(out, case.word, case.sheet)?;
+        say(out, said_of(case.word, case.sheet))?;
         rest = case.rest;
     }
     Ok(())

@@ -1,6 +1,6 @@
 -- The report told part by part, and what is told of a sheet's front up to one byte past the limit, which is told of the sheet: a longer
 -- one is refused. Assumes nothing.
-use Rattle.std.proofs.Common.{◌≡◌, ℕ, ◌<◌, ◌≤◌, Bool, true, false, List, [], ◌∷◌, ◌++◌, length, take}
+use Rattle.std.proofs.Common.{◌≡◌, ℕ, ◌<◌, ◌≤◌, Bool, true, false, List, [], ◌++◌, length, take}
 use Rattle.std.proofs.lemmas.List.{take_all, length-take-le}
 use native.Mathlib.Omega.{arith}
 use mathlib.Core.Path.{refl, sym, ap, subst, ◌∙◌}
@@ -30,7 +30,8 @@ part_more done part next here whole p q = append_assoc done part next ∙ ap (λ
 pub part_last : (done here whole : List ℕ) → done ++ here ≡ whole → here ≡ [] → done ≡ whole
 part_last done here whole p q = sym (append-nil done) ∙ ap (λ (l : List ℕ). done ++ l) (sym q) ∙ p
 
-pub refusal_line : refused_text (numbers_of SheetTooLong) ≡ 0x28 ∷ 0x72 ∷ 0x65 ∷ 0x66 ∷ 0x75 ∷ 0x73 ∷ 0x65 ∷ 0x64 ∷ 0x20 ∷ 0x34 ∷ 0x29 ∷ 0x0A ∷ []
+-- how long the line of the refusal is
+pub refusal_line : length (refused_text (numbers_of SheetTooLong)) ≡ 12
 unfolding refused_text decimal digits_in
 refusal_line = refl
 

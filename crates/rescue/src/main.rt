@@ -9,10 +9,12 @@ ghost use Rattle.rescued.specs.Stretches.{report_of};
 ghost use Rattle.rescue.specs.Printed.{kept_printed, report_told};
 
 use intake::read_at_most;
+use refusals::Refusal;
 use rescued::part::Torn;
 use std::alloc::Global;
 use std::io;
 use std::io::{Read, Write};
+use writing::{Printed, Writer};
 
 // The report of a sheet, part by part.
 fn report<W: Write>(told: &mut W, torn: &Torn<'_>) -> io::Result<()>
@@ -39,11 +41,13 @@ fn answer<R: Read + Drop, K: Write, T: Write>(
     ensures tells { OnOk result (IfSome (R.remaining sheet) (λ s. Appends (T.contents told.old) (T.contents told.new) (report_told s))) }
 {
     let sheet = read_at_most(alloc, sheet, 65537)?;
+    let mut out = [0u8; 65536];
     if 65536 < sheet.len() {
-        return told.write_all(b"(refused 4)\n");
+        let mut w = Writer::new(&mut out);
+        Refusal::SheetTooLong.put(&mut w);
+        return told.write_all(w.written());
     }
     let torn = Torn { sheet: &sheet };
-    let mut out = [0u8; 65536];
     let size = torn.put_kept(&mut out);
     kept.write_all(&out[..size])?;
     report(told, &torn)

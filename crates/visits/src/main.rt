@@ -13,6 +13,7 @@ ghost use Rattle.visits.specs.Printed.{lines_of, unended, last_line, printed};
 
 use crate::lines::{put_last, put_lines};
 use arrayvec::ArrayVec;
+use intake::read_at_most;
 use lookup::lexicon::Lexicon;
 use lookup::lines::lexicon_of;
 use lookup::starts::Start;
@@ -79,9 +80,7 @@ fn answer<R: Read, W: Write>(words: &mut R, told: &mut W, sheet: &[u8]) -> io::R
 
 // The sheet of a path, to its end, or one byte past the limit.
 fn read_sheet<R: Files + AllocGlobal>(rt: &R, path: &str) -> io::Result<Vec<u8>> {
-    let mut sheet = Vec::new(rt.alloc());
-    fs::open(rt, path)?.take(65537).read_to_end(&mut sheet)?;
-    Ok(sheet)
+    read_at_most(rt.alloc(), fs::open(rt, path)?, 65537)
 }
 
 fn main(rt: HostRuntime) -> io::Result<()> {

@@ -1,6 +1,10 @@
 -- `rescue::answer` keeps and tells: what it reads is the sheet's front. Assumes nothing.
 use native.Mathlib.Omega.{arith}
 use mathlib.Core.Path.{sym, ap, ◌∙◌}
+use Rattle.refusals.specs.Refusals.{numbers_of}
+use Rattle.refusals.specs.declared.Refusal.TheVariants.{SheetTooLong}
+use Rattle.writing.specs.Refused.{refused_text}
+use Rattle.writing.proofs.Puts.{put_whole}
 use Rattle.rescued.specs.Stretches.{kept_of, report_of}
 use Rattle.intake.proofs.Told.{told_none, told_now, told_of, told_before, whole_front}
 use Rattle.rescue.specs.Printed.{kept_printed, report_told}
@@ -14,8 +18,9 @@ returns-then-len-gt65536-clause-keeps g c =
 
 pub returns-then-len-gt65536-clause-tells : goal.returns-then-len-gt65536-clause-tells
 returns-then-len-gt65536-clause-tells g c =
-    told_of c.write_all.result _ _ _ report_told 65537 c.write_all.ensures.bytes
-    (sym (long_told c.in_ok-sheet.sheet.items (omega (arith, c.if-len-gt65536.true, c.len.ensures)) ∙ refusal_line)) c.in_ok-sheet.ensures told_front
+    let e = put_whole (refused_text (numbers_of SheetTooLong)) c.new-w.ensures c.put.ensures (omega (arith, refusal_line)) (omega (arith, refusal_line)) in
+    told_of c.write_all.result _ _ _ report_told 65537 (rw (sym (c.written.ensures ∙ e)) c.write_all.ensures.bytes)
+    (sym (long_told c.in_ok-sheet.sheet.items (omega (arith, c.if-len-gt65536.true, c.len.ensures)))) c.in_ok-sheet.ensures told_front
 
 pub returns-clause-keeps : goal.returns-clause-keeps
 returns-clause-keeps g c =
