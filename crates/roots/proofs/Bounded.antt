@@ -11,8 +11,7 @@ use lib.ListN.{length, drop, length-append}
 use lib.Dec.{leb, ltb}
 use borrow.Author.Tests.{lt-ltb}
 use Rattle.runs.specs.Runs.{pick, begins_with, ends_in}
-use Rattle.text.specs.Utf8.{tail, within}
-use Rattle.text.specs.Characters.{opens, chars}
+use Rattle.text.specs.Characters.{chars}
 use Rattle.tables.specs.Rows.{prefix_forms, suffixes}
 use Rattle.tables.proofs.Facts.{suffix-count, prefix_form_count}
 use Rattle.tables.proofs.Matches.{two_suffixes, two_prefix_forms}

@@ -1,6 +1,6 @@
 -- The bytes before the first one that no name holds, read one by one. The proofs of `read_name` and of a line's shape cite these.
 -- Assumes nothing.
-use Rattle.std.specs.Prelude.{Option, Some, None}
+use Rattle.std.specs.Prelude.{Some, None}
 use Rattle.std.specs.List.{position, position_or_len}
 use Rattle.std.specs.Option.{unwrap_or}
 use Rattle.std.specs.Bool.{then_some}

@@ -7,15 +7,13 @@ use mathlib.Core.Bool.{Bool, true, false}
 use mathlib.Core.List.{List}
 use lib.ListN.{length, take, drop, length-drop}
 use lib.Seq.{drop-drop}
-use lib.Dec.{leb}
 use borrow.Author.Tests.{le-leb, lt-leb}
 use Rattle.runs.specs.Runs.{pick, begins_with}
 use Rattle.text.specs.Names.{name_run}
 use Rattle.sheet.specs.Forms.{Entry, front, entry_of, is_form, is_name}
 use Rattle.sheet.specs.Lines.{line_at}
 use Rattle.sheet.specs.Steps.{head_with, name_end, value_end, name_read, form_at, form_there, step_at}
-use Rattle.std.specs.Prelude.{Option, Some, None, Result, Ok, Err}
-use Rattle.sheet.specs.declared.line.LineFault.{LineFault}
+use Rattle.std.specs.Prelude.{Option, Some, None, Ok, Err}
 use Rattle.sheet.specs.declared.line.LineFault.TheVariants.{NoForm}
 use Rattle.sheet.specs.declared.line.Form.{Form}
 use Rattle.sheet.specs.declared.line.Cursor.{Cursor}
