@@ -19,7 +19,7 @@ use Rattle.sheet.specs.declared.line.Form.{Form}
 use Rattle.sheet.specs.declared.line.LineFault.{LineFault}
 use Rattle.sheet.specs.declared.line.LineFault.TheVariants.{NoForm, NotAbove}
 use Rattle.std.specs.Prelude.{Option, Some, None, Result, Ok, Err}
-use Rattle.sheet.proofs.Forms.{written-length, form-named, form_meant, name-plain, value-plain, line-bytes, line-fits}
+use Rattle.sheet.proofs.Forms.{written-length, form-named, form_meant, name-plain, value-plain, line-bytes}
 
 -- a byte that may stand in a name ends no line
 no_feed : (b : ℕ) → forbidden b ≡ false → eqb b 0x0A ≡ false

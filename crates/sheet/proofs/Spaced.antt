@@ -19,7 +19,7 @@ use Rattle.runs.proofs.Ordered.{Stand, stand, below, above, alike, step, step_le
 use Rattle.sheet.specs.Forms.{is_form, key, key_of}
 use Rattle.sheet.specs.Lines.{line_at}
 use Rattle.sheet.specs.Keys.{spaced, headed}
-use Rattle.sheet.proofs.Forms.{line-letter, name-at}
+use Rattle.sheet.proofs.Forms.{name-at}
 
 module _ (t : List ℕ) (i : ℕ) where
   pub spaced-past : length t ≤ i → spaced (drop i t) ≡ []

@@ -104,6 +104,7 @@ impl Cursor {
             next: Cursor { at: end },
         })
     }
+
     // The form that begins at the cursor, none at the sheet's end; or that the line is no form.
     pub fn step(self, s: &[u8]) -> Result<Option<Form<Cursor>>, LineFault>
         ensures { result ≡ step_at s.now self.at }

@@ -1,5 +1,5 @@
 -- `form::head_order` meets its contract: by the letter first, then by the name. Assumes nothing.
-use Rattle.std.proofs.Common.{rules, ap, ◌∙◌}
+use Rattle.std.proofs.Common.{rules, ◌∙◌}
 use Rattle.sheet.proofs.Spaced.{head_by}
 use Rattle.sheet.proofs.form.FormAt.head_order.Goals as goal
 

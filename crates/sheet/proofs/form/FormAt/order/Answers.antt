@@ -1,5 +1,5 @@
 -- `form::order` meets its contract: by the letter first, then by the name. Assumes nothing.
-use Rattle.std.proofs.Common.{rules, ap, ◌∙◌, ◌++◌}
+use Rattle.std.proofs.Common.{rules, ◌∙◌, ◌++◌}
 use Rattle.sheet.proofs.Spaced.{line_by}
 use Rattle.sheet.proofs.form.FormAt.order.Goals as goal
 

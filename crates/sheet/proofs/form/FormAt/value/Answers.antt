@@ -1,9 +1,8 @@
 -- `form::value` meets its contract: the value stands between its own ends. Assumes nothing.
-use Rattle.std.proofs.Common.{arith, ℕ, ◌≡◌, ap, ap₂, ◌∙◌, length}
-use Prim.Native.Nat.{◌+◌, ◌-◌}
+use Rattle.std.proofs.Common.{arith, ℕ, ◌≡◌, ap₂, ◌∙◌, length}
+use Prim.Native.Nat.{◌-◌}
 use lib.ListN.{take, drop}
 use Rattle.sheet.specs.Lines.{line_at}
-use Rattle.sheet.specs.Steps.{name_end}
 use Rattle.sheet.proofs.Forms.{line-fits, value-text}
 use Rattle.sheet.proofs.form.FormAt.value.Goals as goal
 
