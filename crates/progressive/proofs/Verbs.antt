@@ -7,7 +7,7 @@ use mathlib.Core.List.{List, [], ◌++◌, append-nil}
 use Prim.Native.Nat.{ℕ, ◌+◌, ◌-◌}
 use native.Mathlib.Omega.{arith}
 use lib.ListN.{length, take, drop}
-use borrow.Author.Tests.{eq-eqb, ne_eqb}
+use lib.Dec.{eqb}
 use Rattle.runs.specs.Runs.{pick, ends_in}
 use Rattle.sheet.specs.Forms.{syllable_nu}
 use Rattle.sheet.specs.Replies.{Reply, reply, letters_told}
@@ -70,10 +70,7 @@ module _ (s : List ℕ) where
   pub not-verb : (name : List ℕ) → is_verb (reply s) name ≡ false → LemmaAt s (verb_or (reply s) name none) None
   not-verb name e = no-lemma _ (ap (λ (b : Bool). pick b (lemma name) none) e)
 
-  -- the verb that a link line names, by whether there is a line
-  pub untold : (r : Option Spot) → r ≡ None → verb_told (reply s) (text_at s r) ≡ none
-  untold r e = ap (λ r. verb_told (reply s) (text_at s r)) e
-
+  -- the verb that a link line names
   pub told-verb : (r : Option Spot) (v : Spot) → r ≡ Some v →
       verb_or (reply s) (take (v.at + v.len - v.at) (drop v.at s) ++ []) none ≡ verb_told (reply s) (text_at s r)
   told-verb r v e =
@@ -118,32 +115,23 @@ module _ (s linked stem : List ℕ) where
       ap (λ (b : Bool). pick b (verb_or (reply s) (stem ++ (letter_u ++ syllable_nu)) last) last) e
 
   -- a stem that is empty or ends in ् has none; else a link line decides alone, where there is one
-  pub empty_stem : length stem ≡ 0 → lemma_of (reply s) linked stem ≡ none
+  pub empty_stem : eqb (length stem) 0 ≡ true → lemma_of (reply s) linked stem ≡ none
   unfolding lemma_of
-  empty_stem h = rw (eq-eqb _ _ h)
+  empty_stem h = ap (λ (b : Bool). pick (b || ends_in virama stem) none (decided (reply s) linked stem (reply s 0x6C linked))) h
 
-  pub bare-stem : (length stem ≡ 0 → ⊥) → ends_in virama stem ≡ true → lemma_of (reply s) linked stem ≡ none
-  unfolding lemma_of
-  bare-stem h e =
-      ap (λ (b : Bool). pick (b || ends_in virama stem) none (decided (reply s) linked stem (reply s 0x6C linked))) (ne_eqb _ _ h)
-      ∙ ap (λ (b : Bool). pick b none (decided (reply s) linked stem (reply s 0x6C linked))) e
+  module _ (h : eqb (length stem) 0 ≡ false) where
+    pub bare-stem : ends_in virama stem ≡ true → lemma_of (reply s) linked stem ≡ none
+    unfolding lemma_of
+    bare-stem e =
+        ap (λ (b : Bool). pick (b || ends_in virama stem) none (decided (reply s) linked stem (reply s 0x6C linked))) h
+        ∙ ap (λ (b : Bool). pick b none (decided (reply s) linked stem (reply s 0x6C linked))) e
 
-  pub whole-stem : (length stem ≡ 0 → ⊥) → ends_in virama stem ≡ false →
-      lemma_of (reply s) linked stem ≡ decided (reply s) linked stem (reply s 0x6C linked)
-  unfolding lemma_of
-  whole-stem h e =
-      ap (λ (b : Bool). pick (b || ends_in virama stem) none (decided (reply s) linked stem (reply s 0x6C linked))) (ne_eqb _ _ h)
-      ∙ ap (λ (b : Bool). pick b none (decided (reply s) linked stem (reply s 0x6C linked))) e
+    whole-stem : ends_in virama stem ≡ false → lemma_of (reply s) linked stem ≡ decided (reply s) linked stem (reply s 0x6C linked)
+    unfolding lemma_of
+    whole-stem e =
+        ap (λ (b : Bool). pick (b || ends_in virama stem) none (decided (reply s) linked stem (reply s 0x6C linked))) h
+        ∙ ap (λ (b : Bool). pick b none (decided (reply s) linked stem (reply s 0x6C linked))) e
 
-  pub by_reply : (a : Reply) → a ≡ reply s 0x6C linked → (length stem ≡ 0 → ⊥) → ends_in virama stem ≡ false →
-      lemma_of (reply s) linked stem ≡ decided (reply s) linked stem a
-  by_reply a q h e = whole-stem h e ∙ ap (decided (reply s) linked stem) (sym q)
-
-  -- a link line that was found decides alone, and the search goes on where there is none
-  pub linked_found : (r : Option Spot) → is_some r ≡ true → verb_told (reply s) (text_at s r) ≡ decided (reply s) linked stem (text_at s r)
-  linked_found (Some v) e = refl
-  linked_found None e = let z : ◌≡◌ {A = ℕ} 0 1 = cc in absurd (omega arith)
-
-  pub linked_next : (r : Option Spot) → is_some r ≡ false → regular (reply s) linked stem ≡ decided (reply s) linked stem (text_at s r)
-  linked_next None e = refl
-  linked_next (Some v) e = let z : ◌≡◌ {A = ℕ} 0 1 = cc in absurd (omega arith)
+    pub by_reply : (a : Reply) → a ≡ reply s 0x6C linked → ends_in virama stem ≡ false →
+        lemma_of (reply s) linked stem ≡ decided (reply s) linked stem a
+    by_reply a q e = whole-stem e ∙ ap (decided (reply s) linked stem) (sym q)

@@ -1,6 +1,6 @@
 // The search for a progressive form and its lemma in an accepted sheet.
 // A question is asked in two parts, a part of the word and a fixed ending, so that nothing is joined.
-ghost use Rattle.std.specs.Prelude.{◌≡◌, ◌||◌, ◌++◌};
+ghost use Rattle.std.specs.Prelude.{◌≡◌, ◌||◌, ◌++◌, Some};
 ghost use Rattle.runs.specs.Runs.{ends_in};
 ghost use Rattle.lookup.specs.Answers.{text_at, SpotIn};
 ghost use Rattle.lookup.specs.Lexicons.{replies};
@@ -68,12 +68,11 @@ fn regular_lemma(sheet: &Lexicon<'_>, linked: &[u8], stem: &[u8]) -> Option<Spot
     verb_at(sheet, linked, b"\xE0\xA4\xA8\xE0\xA5\x81")
 }
 
-// Where the infinitive that a link line names stands, if it is a verb. `link` is the infinitive's part of the line, if there is one.
-fn linked_verb(sheet: &Lexicon<'_>, link: Option<Spot>) -> Option<Spot>
-    requires { SpotIn sheet.now.bytes.now link }
-    ensures { LemmaAt sheet.now.bytes.now (verb_told (replies sheet.now) (text_at sheet.now.bytes.now link)) result }
+// Where the infinitive that a link line names stands, if it is a verb. `link` is the infinitive's part of the line.
+fn linked_verb(sheet: &Lexicon<'_>, link: Spot) -> Option<Spot>
+    requires { SpotIn sheet.now.bytes.now (Some link) }
+    ensures { LemmaAt sheet.now.bytes.now (verb_told (replies sheet.now) (text_at sheet.now.bytes.now (Some link))) result }
 {
-    let link = link?;
     let at = link.at;
     let end = at + link.len;
     verb_at(sheet, &sheet.bytes[at..end], b"")
@@ -83,18 +82,13 @@ fn linked_verb(sheet: &Lexicon<'_>, link: Option<Spot>) -> Option<Spot>
 fn supported_infinitive(sheet: &Lexicon<'_>, linked: &[u8], stem: &[u8]) -> Option<Spot>
     ensures { LemmaAt sheet.now.bytes.now (lemma_of (replies sheet.now) linked.now stem.now) result }
 {
-    if stem.len() == 0 {
+    if stem.is_empty() || ends_with(stem, b"\xE0\xA5\x8D") {
         return None;
     }
-    if ends_with(stem, b"\xE0\xA5\x8D") {
-        return None;
+    match sheet.link_of(linked) {
+        Some(link) => linked_verb(sheet, link),
+        None => regular_lemma(sheet, linked, stem),
     }
-    let link = sheet.link_of(linked);
-    let named = linked_verb(sheet, link);
-    if link.is_some() {
-        return named;
-    }
-    regular_lemma(sheet, linked, stem)
 }
 
 // Whether the word ends in रहेको, रहेकी or रहेका.
