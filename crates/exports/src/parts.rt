@@ -1,6 +1,5 @@
 // Decompositions and root candidates, stored in a lent buffer of bytes.
 ghost use Rattle.std.specs.Prelude.{◌≡◌, refl, ◌++◌, ◌≤◌, length, drop};
-ghost use Rattle.exports.specs.Codes.{bit};
 ghost use Rattle.exports.specs.Filled.{parts_bytes, morpheme_bytes, candidate_bytes, stored, decompose_filled, candidate_width, candidates_filled};
 
 use crate::stored::{Row, put_rows};
@@ -31,12 +30,6 @@ fn put_parts(p: Parts, a: u8, b: u8, c: u8, d: u8, out: &mut [u8])
     out[9..33].copy_from_slice(&p.suffixes);
 }
 
-fn bit_of(b: bool) -> u8
-    ensures { (result ≡ bit b) × (result ≤ 1) }
-{
-    u8::from(b)
-}
-
 // A candidate: its parts, origin, whether it is known, and score.
 impl Row for RootCandidate {
     const WIDTH: usize = 33;
@@ -49,7 +42,7 @@ impl Row for RootCandidate {
 
     fn put(self, out: &mut [u8]) {
         let origin = origin_number(self.origin);
-        let known = bit_of(self.known_word) + 2 * bit_of(self.known_headword);
+        let known = u8::from(self.known_word) + 2 * u8::from(self.known_headword);
         let score = self.score.to_le_bytes();
         put_parts(self.parts, origin, known, score[0], score[1], out);
     }
