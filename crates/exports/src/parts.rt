@@ -11,9 +11,9 @@ use roots::RootCandidate;
 use roots::entries::lookup_root_candidates;
 
 // Parts and four bytes more, at the front of the buffer.
-fn put_parts(p: Parts, a: u8, b: u8, c: u8, d: u8, out: &mut [u8])
+fn put_parts(p: Parts, more: [u8; 4], out: &mut [u8])
     requires { 33 ≤ length out.old }
-    ensures { out.new ≡ parts_bytes p a b c d ++ drop 33 out.old }
+    ensures { out.new ≡ parts_bytes p more ++ drop 33 out.old }
 {
     let front = [
         p.start,
@@ -21,12 +21,9 @@ fn put_parts(p: Parts, a: u8, b: u8, c: u8, d: u8, out: &mut [u8])
         p.prefix.unwrap_or(0),
         p.prefix_count(),
         p.suffix_count,
-        a,
-        b,
-        c,
-        d,
     ];
-    out[..9].copy_from_slice(&front);
+    out[..5].copy_from_slice(&front);
+    out[5..9].copy_from_slice(&more);
     out[9..33].copy_from_slice(&p.suffixes);
 }
 
@@ -44,7 +41,7 @@ impl Row for RootCandidate {
         let origin = origin_number(self.origin);
         let known = u8::from(self.known_word) + 2 * u8::from(self.known_headword);
         let score = self.score.to_le_bytes();
-        put_parts(self.parts, origin, known, score[0], score[1], out);
+        put_parts(self.parts, [origin, known, score[0], score[1]], out);
     }
 }
 
@@ -69,7 +66,7 @@ fn put_morpheme(m: Morpheme, out: &mut [u8]) -> u64
         return refusal_code(Refusal::OutputTooShort);
     }
     let origin = origin_number(m.origin);
-    put_parts(m.parts, origin, 0, 0, 0, out);
+    put_parts(m.parts, [origin, 0, 0, 0], out);
     0
 }
 
