@@ -11,7 +11,7 @@ ghost use Rattle.origin.specs.Answers.{decision_answer};
 ghost use Rattle.analysis.specs.Answers.{has_of};
 ghost use Rattle.roots.specs.Answers.{known_answer};
 ghost use Rattle.listing.specs.Printed.{outcome_of, left_of};
-ghost use Rattle.exports.specs.Codes.{answered, word_code, sheet_code, refusal_code, bit, form_value, progressive_code, yes_code, PlacedIn, Small, written_code, origin_number, source_number, origin_code, confidence_of};
+ghost use Rattle.exports.specs.Codes.{answered, word_code, sheet_code, refusal_code, form_value, progressive_code, yes_code, PlacedIn, Small, written_code, origin_number, source_number, origin_code, confidence_of};
 
 use analysis::entry::has_supported_analysis;
 use listing::entry::write_readings;
