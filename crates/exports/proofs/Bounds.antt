@@ -42,7 +42,7 @@ use Rattle.refusals.specs.Refusals.{number, numbers_of, Before}
 use Rattle.refusals.specs.declared.Refusal.TheVariants.{OutputTooShort}
 use Rattle.refusals.proofs.Outputs.{number_small}
 use Rattle.roots.specs.Answers.{known_if, known_answer, roots_for}
-use Rattle.exports.specs.Codes.{Small}
+use Rattle.exports.specs.Codes.{PlacedIn, Small}
 use Rattle.decomposition.proofs.Short.{word-short}
 use Rattle.origin.specs.Answers.{decision_if, decision_answer}
 
@@ -106,83 +106,63 @@ form_small w s r f k e =
     (omega (arith, n, l), n.2, omega (arith, n, l))
 
 -- the same of a refusal in the other answers
-abbrev PlacedSupported : Result Bool Refusal → Type 0
-PlacedSupported (Err r) = Placed r
-PlacedSupported (Ok b) = Unit {0}
-
-supported-placed : (w s : List ℕ) → PlacedSupported (supported_of w s)
+supported-placed : (w s : List ℕ) → PlacedIn (supported_of w s)
 unfolding supported_of
 supported-placed w s = by (inputs_of w s) refl
   where
-    by : (i : Result (Unit {0}) Refusal) → inputs_of w s ≡ i → PlacedSupported (supported_if i w s)
+    by : (i : Result (Unit {0}) Refusal) → inputs_of w s ≡ i → PlacedIn (supported_if i w s)
     by (Ok _) e = tt
     by (Err r) e = refused-placed w s r e
 
--- the answer d turned out to be the refusal r
-pub supported-refused : (w s : List ℕ) (d : Result Bool Refusal) (r : Refusal) → d ≡ supported_of w s → d ≡ Err r → Placed r
-supported-refused w s d r e f = subst PlacedSupported (sym e ∙ f) (supported-placed w s)
+-- the same of an answer d that is this one
+pub supported-told : (w s : List ℕ) (d : Result Bool Refusal) → d ≡ supported_of w s → PlacedIn d
+supported-told w s d e = subst PlacedIn (sym e) (supported-placed w s)
 
-abbrev PlacedBy : Result OriginDecision Refusal → Type 0
-PlacedBy (Ok d) = Unit {0}
-PlacedBy (Err r) = Placed r
-
-decision-placed : (w s : List ℕ) → PlacedBy (decision_answer w s)
+decision-placed : (w s : List ℕ) → PlacedIn (decision_answer w s)
 unfolding decision_answer
 decision-placed w s = by (inputs_of w s) refl
   where
-    by : (i : Result (Unit {0}) Refusal) → inputs_of w s ≡ i → PlacedBy (decision_if i w s)
+    by : (i : Result (Unit {0}) Refusal) → inputs_of w s ≡ i → PlacedIn (decision_if i w s)
     by (Ok _) e = tt
     by (Err r) e = refused-placed w s r e
 
 pub decision-refused : (w s : List ℕ) (d : Result OriginDecision Refusal) (r : Refusal) → d ≡ decision_answer w s → d ≡ Err r → Placed r
-decision-refused w s d r e f = subst PlacedBy (sym e ∙ f) (decision-placed w s)
+decision-refused w s d r e f = subst PlacedIn (sym e ∙ f) (decision-placed w s)
 
-abbrev PlacedHas : Result Bool Refusal → Type 0
-PlacedHas (Ok b) = Unit {0}
-PlacedHas (Err r) = Placed r
-
-has-placed : (w s : List ℕ) → PlacedHas (has_of w s)
+has-placed : (w s : List ℕ) → PlacedIn (has_of w s)
 unfolding has_of said_of
 has-placed w s = by (inputs_of w s) refl (collected w s)
   where
-    by : (i : Result (Unit {0}) Refusal) → inputs_of w s ≡ i → (c : Rows) → PlacedHas (has_by (said_by i c) (is_some (rows_given w s)))
+    by : (i : Result (Unit {0}) Refusal) → inputs_of w s ≡ i → (c : Rows) → PlacedIn (has_by (said_by i c) (is_some (rows_given w s)))
     by (Ok _) e (rows rs) = tt
     by (Ok _) e over = tt
     by (Err r) e c = refused-placed w s r e
 
-pub has-refused : (w s : List ℕ) (d : Result Bool Refusal) (r : Refusal) → d ≡ has_of w s → d ≡ Err r → Placed r
-has-refused w s d r e f = subst PlacedHas (sym e ∙ f) (has-placed w s)
+pub has-told : (w s : List ℕ) (d : Result Bool Refusal) → d ≡ has_of w s → PlacedIn d
+has-told w s d e = subst PlacedIn (sym e) (has-placed w s)
 
-abbrev PlacedKnown : Result Bool Refusal → Type 0
-PlacedKnown (Ok b) = Unit {0}
-PlacedKnown (Err r) = Placed r
-
-known_placed : (w s : List ℕ) → PlacedKnown (known_answer w s)
+known_placed : (w s : List ℕ) → PlacedIn (known_answer w s)
 unfolding known_answer
 known_placed w s = by (inputs_of w s) refl
   where
-    by : (i : Result (Unit {0}) Refusal) → inputs_of w s ≡ i → PlacedKnown (known_if i (roots_for w s))
+    by : (i : Result (Unit {0}) Refusal) → inputs_of w s ≡ i → PlacedIn (known_if i (roots_for w s))
     by (Ok _) e = tt
     by (Err r) e = refused-placed w s r e
 
-pub known_refused : (w s : List ℕ) (d : Result Bool Refusal) (r : Refusal) → d ≡ known_answer w s → d ≡ Err r → Placed r
-known_refused w s d r e f = subst PlacedKnown (sym e ∙ f) (known_placed w s)
+pub known_told : (w s : List ℕ) (d : Result Bool Refusal) → d ≡ known_answer w s → PlacedIn d
+known_told w s d e = subst PlacedIn (sym e) (known_placed w s)
 
 -- the same of the pieces visited, which are at most 5,000
-abbrev SmallVisits : Result ℕ Refusal → Type 0
-SmallVisits (Ok n) = n ≤ 5000
-SmallVisits (Err r) = Placed r
-
-visits_small : (w s : List ℕ) → SmallVisits (visits_answer w s)
+visits_small : (w s : List ℕ) → Small (visits_answer w s)
 unfolding visits_answer
 visits_small w s = by (inputs_of w s) refl
   where
-    by : (i : Result (Unit {0}) Refusal) → inputs_of w s ≡ i → SmallVisits (visits_in i (visits_of (reply s) w))
-    by (Ok _) e = few_visits (reply s) w
+    by : (i : Result (Unit {0}) Refusal) → inputs_of w s ≡ i → Small (visits_in i (visits_of (reply s) w))
+    by (Ok _) e = let n = few_visits (reply s) w in omega (arith, n)
     by (Err r) e = refused-placed w s r e
 
-pub visits_told : (w s : List ℕ) (d x : Result ℕ Refusal) → d ≡ visits_answer w s → d ≡ x → SmallVisits x
-visits_told w s d x e f = subst SmallVisits (sym e ∙ f) (visits_small w s)
+pub visits_told : (w s : List ℕ) (d : Result ℕ Refusal) → d ≡ visits_answer w s → Small d
+visits_told w s d e = subst Small (sym e) (visits_small w s)
 
 -- the same of what is said of a list of readings; where it is given, the word is short
 abbrev PlacedSaid : List ℕ → Result (Unit {0}) Refusal → Type 0

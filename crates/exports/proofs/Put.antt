@@ -28,10 +28,10 @@ use Rattle.exports.specs.Rows.{Filled, readings_if, readings_filled}
 use Rattle.exports.specs.Filled.{parts_bytes, morpheme_bytes, candidate_bytes, stored, decompose_if, decompose_filled, candidates_if, candidates_filled}
 
 pub candidate-bytes : (c : RootCandidate) {o x y : ℕ} {b : List ℕ} → o ≡ origin_number c.origin → x ≡ bit c.known_word → y ≡ bit c.known_headword
-    → c.score < 65536 → b ≡ to_le_bytes w16 c.score → parts_bytes c.parts o (x + 2 * y) (get_or b 0 0) (get_or b 1 0) ≡ candidate_bytes c
+    → c.score < 65536 → b ≡ to_le_bytes w16 c.score → parts_bytes c.parts (o ∷ (x + 2 * y) ∷ get_or b 0 0 ∷ get_or b 1 0 ∷ []) ≡ candidate_bytes c
 candidate-bytes c p q r h f = let e : c.score / 256 % 256 ≡ c.score / 256 = omega arith in rw (p, q, r, f, e)
 
-pub morpheme-bytes : (m : Morpheme) {o : ℕ} → o ≡ origin_number m.origin → parts_bytes m.parts o 0 0 0 ≡ morpheme_bytes m
+pub morpheme-bytes : (m : Morpheme) {o : ℕ} → o ≡ origin_number m.origin → parts_bytes m.parts (o ∷ 0 ∷ 0 ∷ 0 ∷ []) ≡ morpheme_bytes m
 morpheme-bytes m p = rw p
 
 -- a buffer that is too short, and one that is long enough
@@ -101,10 +101,12 @@ cells_all (x ∷ xs) = ap (λ (ys : List ℕ). x ∷ ys) (cells-behind (length x
 pub cells_full : (n : ℕ) (xs : List ℕ) → length xs ≡ n → cells n 0 xs ≡ xs
 cells_full n xs e = ap (λ (k : ℕ). cells k 0 xs) (sym e) ∙ cells_all xs
 
--- parts, and the 24 places for suffix rows behind them
-pub parts-stored : (p : Parts) (a b c d : ℕ) (old now part : List ℕ) → length p.suffixes ≡ 24
-    → now ≡ (p.start ∷ p.end ∷ unwrap_or p.prefix 0 ∷ length (prefixes_of p.prefix) ∷ p.suffix_count ∷ a ∷ b ∷ c ∷ d ∷ []) ++ drop 9 old → part ≡ p.suffixes
-    → put_mid 9 24 now part ≡ parts_bytes p a b c d ++ drop 33 old
-parts-stored p a b c d old now part l e f =
-    let front = p.start ∷ p.end ∷ unwrap_or p.prefix 0 ∷ length (prefixes_of p.prefix) ∷ p.suffix_count ∷ a ∷ b ∷ c ∷ d ∷ [] in
-    stored_behind 9 24 front p.suffixes old now part e refl f ∙ ap (λ (xs : List ℕ). (front ++ xs) ++ drop 33 old) (sym (cells_full 24 p.suffixes l))
+-- parts: five bytes, four more, and the 24 places for suffix rows behind them
+pub parts-stored : (p : Parts) (more old now four part : List ℕ) → length more ≡ 4 → length p.suffixes ≡ 24
+    → now ≡ (p.start ∷ p.end ∷ unwrap_or p.prefix 0 ∷ length (prefixes_of p.prefix) ∷ p.suffix_count ∷ []) ++ drop 5 old → four ≡ more → part ≡ p.suffixes
+    → put_mid 9 24 (put_mid 5 4 now four) part ≡ parts_bytes p more ++ drop 33 old
+parts-stored p more old now four part m l e f g =
+    let front = p.start ∷ p.end ∷ unwrap_or p.prefix 0 ∷ length (prefixes_of p.prefix) ∷ p.suffix_count ∷ [] in
+    let nine : length (front ++ more) ≡ 9 = omega (arith, m) in
+    stored_behind 9 24 (front ++ more) p.suffixes old (put_mid 5 4 now four) part (stored_behind 5 4 front more old now four e refl f) nine g
+    ∙ ap (λ (xs : List ℕ). ((front ++ more) ++ xs) ++ drop 33 old) (sym (cells_full 24 p.suffixes l))

@@ -271,7 +271,7 @@ prefix_back : (o : Option ℕ) → prefix_at (unwrap_or o 0) (length (prefixes_o
 prefix_back None = refl
 prefix_back (Some row) = refl
 
-parts-back : (p : Parts) (a b c d : ℕ) (rest : List ℕ) → Full p → parts_at (parts_bytes p a b c d ++ rest) ≡ p
+parts-back : (p : Parts) (a b c d : ℕ) (rest : List ℕ) → Full p → parts_at (parts_bytes p (a ∷ b ∷ c ∷ d ∷ []) ++ rest) ≡ p
 parts-back p a b c d rest h = parts_is p (prefix_back p.prefix) (cells-back p.suffixes rest h)
 
 candidate_is : (c : RootCandidate) {n : ℕ} {p : Parts} {o : Origin} {a b : Bool} → n ≡ c.score → p ≡ c.parts → o ≡ c.origin → a ≡ c.known_word

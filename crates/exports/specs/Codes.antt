@@ -49,27 +49,23 @@ progressive_code (Err r) = refusal_code r
 progressive_code (Ok form) = answered (form_value form)
 
 -- yes or no
-abbrev pub supported_code : Result Bool Refusal → ℕ
-supported_code (Err r) = refusal_code r
-supported_code (Ok b) = answered (bit b)
+abbrev pub yes_code : Result Bool Refusal → ℕ
+yes_code (Ok b) = answered (bit b)
+yes_code (Err r) = refusal_code r
 
-abbrev pub has_code : Result Bool Refusal → ℕ
-has_code (Ok b) = answered (bit b)
-has_code (Err r) = refusal_code r
-
-abbrev pub known_code : Result Bool Refusal → ℕ
-known_code (Ok b) = answered (bit b)
-known_code (Err r) = refusal_code r
-
--- the pieces visited
-abbrev pub visits_code : Result ℕ Refusal → ℕ
-visits_code (Ok n) = answered n
-visits_code (Err r) = refusal_code r
+-- the place of a refusal is small enough for the code
+abbrev pub PlacedIn : {A : Type 0} → Result A Refusal → Type 0
+PlacedIn (Ok _) = Unit {0}
+PlacedIn (Err r) = Placed r
 
 -- how much was written, or why nothing was
 abbrev pub written_code : Result ℕ Refusal → ℕ
 written_code (Ok n) = answered n
 written_code (Err r) = refusal_code r
+
+-- the pieces visited
+abbrev pub visits_code : Result ℕ Refusal → ℕ
+visits_code visits = written_code visits
 
 -- the bytes or numbers written, or the place of the faulty line, are small enough for the code
 abbrev pub most_written : ℕ

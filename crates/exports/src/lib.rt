@@ -11,7 +11,7 @@ ghost use Rattle.origin.specs.Answers.{decision_answer};
 ghost use Rattle.analysis.specs.Answers.{has_of};
 ghost use Rattle.roots.specs.Answers.{known_answer};
 ghost use Rattle.listing.specs.Printed.{outcome_of, left_of};
-ghost use Rattle.exports.specs.Codes.{answered, word_code, sheet_code, refusal_code, bit, form_value, progressive_code, supported_code, has_code, known_code, Small, written_code, origin_number, source_number, origin_code, confidence_of};
+ghost use Rattle.exports.specs.Codes.{answered, word_code, sheet_code, refusal_code, form_value, progressive_code, yes_code, PlacedIn, Small, written_code, origin_number, source_number, origin_code, confidence_of};
 
 use analysis::entry::has_supported_analysis;
 use listing::entry::write_readings;
@@ -69,11 +69,15 @@ pub extern "C" fn yunthirel_check_sheet(sheet: &[u8]) -> u64
     }
 }
 
-// A yes or a no as an answer.
-fn yes_code(yes: bool) -> u64
-    ensures { result ≡ answered (bit yes) }
+// A yes or a no; else the refusal.
+fn yes_code(answer: Result<bool, Refusal>) -> u64
+    requires { PlacedIn answer }
+    ensures { result ≡ yes_code answer }
 {
-    256 * u64::from(yes)
+    match answer {
+        Ok(yes) => 256 * u64::from(yes),
+        Err(refusal) => refusal_code(refusal),
+    }
 }
 
 // A form as an answer: bit 0 of its value, the sign in bit 1, 8 bits for the end of the main form, 8 for the length of the lemma's name
@@ -106,37 +110,28 @@ pub extern "C" fn yunthirel_progressive(word: &[u8], sheet: &[u8]) -> u64
 // Whether the word is a supported progressive form; else the refusal.
 #[unsafe(no_mangle)]
 pub extern "C" fn yunthirel_has_progressive(word: &[u8], sheet: &[u8]) -> u64
-    ensures { result ≡ supported_code (supported_of word.now sheet.now) }
+    ensures { result ≡ yes_code (supported_of word.now sheet.now) }
 {
-    match has_supported_progressive_form(word, sheet) {
-        Err(refusal) => refusal_code(refusal),
-        Ok(supported) => yes_code(supported),
-    }
+    yes_code(has_supported_progressive_form(word, sheet))
 }
 
 // Whether the word has a reading; else the refusal, of which more than 64 readings is one.
 #[unsafe(no_mangle)]
 pub extern "C" fn yunthirel_has_analysis(word: &[u8], sheet: &[u8]) -> u64
-    ensures { result ≡ has_code (has_of word.now sheet.now) }
+    ensures { result ≡ yes_code (has_of word.now sheet.now) }
 {
-    match has_supported_analysis(word, sheet) {
-        Err(refusal) => refusal_code(refusal),
-        Ok(some) => yes_code(some),
-    }
+    yes_code(has_supported_analysis(word, sheet))
 }
 
 // Whether the word has a root candidate; else the refusal.
 #[unsafe(no_mangle)]
 pub extern "C" fn yunthirel_has_known_root(word: &[u8], sheet: &[u8]) -> u64
-    ensures { result ≡ known_code (known_answer word.now sheet.now) }
+    ensures { result ≡ yes_code (known_answer word.now sheet.now) }
 {
-    match has_known_root(word, sheet) {
-        Err(refusal) => refusal_code(refusal),
-        Ok(known) => yes_code(known),
-    }
+    yes_code(has_known_root(word, sheet))
 }
 
-// What writing a text gave: how many bytes it has, or the refusal.
+// A number of bytes written, or of pieces visited; else the refusal.
 pub(crate) fn written_code(outcome: Result<usize, Refusal>) -> u64
     requires { Small outcome }
     ensures { result ≡ written_code outcome }

@@ -1,6 +1,5 @@
 // Decompositions and root candidates, stored in a lent buffer of bytes.
 ghost use Rattle.std.specs.Prelude.{◌≡◌, refl, ◌++◌, ◌≤◌, length, drop};
-ghost use Rattle.exports.specs.Codes.{bit};
 ghost use Rattle.exports.specs.Filled.{parts_bytes, morpheme_bytes, candidate_bytes, stored, decompose_filled, candidate_width, candidates_filled};
 
 use crate::stored::{Row, put_rows};
@@ -12,9 +11,9 @@ use roots::RootCandidate;
 use roots::entries::lookup_root_candidates;
 
 // Parts and four bytes more, at the front of the buffer.
-fn put_parts(p: Parts, a: u8, b: u8, c: u8, d: u8, out: &mut [u8])
+fn put_parts(p: Parts, more: [u8; 4], out: &mut [u8])
     requires { 33 ≤ length out.old }
-    ensures { out.new ≡ parts_bytes p a b c d ++ drop 33 out.old }
+    ensures { out.new ≡ parts_bytes p more ++ drop 33 out.old }
 {
     let front = [
         p.start,
@@ -22,19 +21,10 @@ fn put_parts(p: Parts, a: u8, b: u8, c: u8, d: u8, out: &mut [u8])
         p.prefix.unwrap_or(0),
         p.prefix_count(),
         p.suffix_count,
-        a,
-        b,
-        c,
-        d,
     ];
-    out[..9].copy_from_slice(&front);
+    out[..5].copy_from_slice(&front);
+    out[5..9].copy_from_slice(&more);
     out[9..33].copy_from_slice(&p.suffixes);
-}
-
-fn bit_of(b: bool) -> u8
-    ensures { (result ≡ bit b) × (result ≤ 1) }
-{
-    u8::from(b)
 }
 
 // A candidate: its parts, origin, whether it is known, and score.
@@ -49,9 +39,9 @@ impl Row for RootCandidate {
 
     fn put(self, out: &mut [u8]) {
         let origin = origin_number(self.origin);
-        let known = bit_of(self.known_word) + 2 * bit_of(self.known_headword);
+        let known = u8::from(self.known_word) + 2 * u8::from(self.known_headword);
         let score = self.score.to_le_bytes();
-        put_parts(self.parts, origin, known, score[0], score[1], out);
+        put_parts(self.parts, [origin, known, score[0], score[1]], out);
     }
 }
 
@@ -76,7 +66,7 @@ fn put_morpheme(m: Morpheme, out: &mut [u8]) -> u64
         return refusal_code(Refusal::OutputTooShort);
     }
     let origin = origin_number(m.origin);
-    put_parts(m.parts, origin, 0, 0, 0, out);
+    put_parts(m.parts, [origin, 0, 0, 0], out);
     0
 }
 

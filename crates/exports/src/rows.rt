@@ -26,8 +26,8 @@ pub const ROW: usize = 28;
 fn bits_of(x: f32) -> u32
     ensures { result ≡ to_bits binary32 x }
 {
-    if x != x {
-        return 2143289344;
+    if x.is_nan() {
+        return 0x7FC0_0000;
     }
     f32::to_bits(x)
 }

@@ -3,7 +3,7 @@ ghost use Rattle.std.specs.Prelude.{◌≡◌};
 ghost use Rattle.analysis.specs.Answers.{visits_answer};
 ghost use Rattle.exports.specs.Codes.{visits_code};
 
-use crate::refusal_code;
+use crate::written_code;
 use analysis::entry::visits_of;
 
 // How many pieces the source's walk visits for the word, also where it has too many readings to list; else the refusal, 1 to 6.
@@ -11,8 +11,5 @@ use analysis::entry::visits_of;
 pub extern "C" fn yunthirel_visits(word: &[u8], sheet: &[u8]) -> u64
     ensures { result ≡ visits_code (visits_answer word.now sheet.now) }
 {
-    match visits_of(word, sheet) {
-        Err(refusal) => refusal_code(refusal),
-        Ok(visits) => 256 * (visits as u64),
-    }
+    written_code(visits_of(word, sheet))
 }

@@ -2,14 +2,16 @@
 -- these. Assumes nothing.
 use Rattle.std.specs.Prelude.{Result}
 use Rattle.refusals.specs.declared.Refusal.{Refusal}
-use Prim.Native.Nat.{ℕ, ◌+◌, ◌-◌, ◌≤◌, ◌<◌}
+use Prim.Native.Nat.{ℕ, ◌+◌, ◌-◌, ◌≤◌, ◌<◌, min}
 use native.Mathlib.Omega.{arith}
 use native.Mathlib.Nat.{zero-add}
-use mathlib.Core.Path.{◌≡◌, sym, ap, subst, ◌∙◌}
+use mathlib.Core.Path.{◌≡◌, refl, sym, ap, subst, ◌∙◌}
+use mathlib.Core.Bool.{Bool, true, false}
 use mathlib.Core.List.{List}
 use lib.ListN.{length, take, drop, length-drop, drop_of_length-le}
 use lib.Seq.{take_all, take-length}
-use borrow.Author.Tests.{le-leb, lt-leb}
+use lib.Dec.{ltb}
+use borrow.Author.Tests.{le-leb, lt-leb, ltb-true, ltb-false}
 use Rattle.runs.specs.Bytes.{slice, index_of}
 use Rattle.writing.specs.Placed.{Answer}
 use Rattle.writing.specs.Refused.{refused_text}
@@ -41,8 +43,12 @@ module _ (input : List ℕ) where
   pub cut-from : (from : ℕ) → from ≤ length input → take (length input - from) (drop from input) ≡ drop from input
   cut-from from h = take_all (length input - from) (drop from input) (simp length-drop (omega arith))
 
-  pub cut-none : (end : ℕ) → length input ≤ end → drop end input ≡ drop (end + 1) input
-  cut-none end h = drop_of_length-le input h ∙ sym (drop_of_length-le input m)
+  pub cut-least : (from : ℕ) → drop (min from (length input)) input ≡ drop from input
+  cut-least from = by (ltb from (length input)) refl
     where
-      m : length input ≤ end + 1
-      m = omega arith
+      by : (b : Bool) → ltb from (length input) ≡ b → drop (min from (length input)) input ≡ drop from input
+      by true e = let h = ltb-true from (length input) e in let m : min from (length input) ≡ from = omega arith in ap (λ (n : ℕ). drop n input) m
+      by false e =
+          let h = ltb-false from (length input) e in
+          let m : length input ≤ min from (length input) = omega arith in
+          drop_of_length-le input m ∙ sym (drop_of_length-le input h)

@@ -8,6 +8,7 @@ ghost use Rattle.listing.specs.Printed.{outcome_of, left_of, readings_text, prin
 use crate::write_listing;
 use analysis::entry::analyze_affixes;
 use refusals::Refusal;
+use sheet::limits::SHEET_BYTES;
 use writing::write_refused;
 
 // Writes the list of the word's readings at the front of `out`. A refused word or sheet, too many readings and too short a buffer
@@ -35,18 +36,14 @@ fn after<'i>(input: &'i [u8], end: usize) -> &'i [u8]
     requires { end ≤ length input.now }
     ensures { result.now ≡ drop (end + 1) input.now }
 {
-    if end < input.len() {
-        let from = end + 1;
-        return &input[from..];
-    }
-    &input[end..]
+    &input[(end + 1).min(input.len())..]
 }
 
 // Writes what the program prints for its input: the word up to the first 0A, then the sheet.
 pub fn print_answer(input: &[u8], out: &mut [u8]) -> Result<usize, Refusal>
     ensures { Answer (printed input.now) out.old out.new result × (length (printed input.now) ≤ listing_room) }
 {
-    if 65536 < input.len() {
+    if SHEET_BYTES < input.len() {
         return write_refused(Refusal::SheetTooLong, out);
     }
     let end = runs::find(input, 0, input.len(), b'\n');

@@ -11,6 +11,7 @@ ghost use Rattle.rescue.specs.Printed.{kept_printed, report_told};
 use intake::read_at_most;
 use refusals::Refusal;
 use rescued::part::Torn;
+use sheet::limits::SHEET_BYTES;
 use std::alloc::Global;
 use std::io;
 use std::io::{Read, Write};
@@ -40,9 +41,9 @@ fn answer<R: Read + Drop, K: Write, T: Write>(
     ensures keeps { OnOk result (IfSome (R.remaining sheet) (λ s. Appends (K.contents kept.old) (K.contents kept.new) (kept_printed s))) }
     ensures tells { OnOk result (IfSome (R.remaining sheet) (λ s. Appends (T.contents told.old) (T.contents told.new) (report_told s))) }
 {
-    let sheet = read_at_most(alloc, sheet, 65537)?;
-    let mut out = [0u8; 65536];
-    if 65536 < sheet.len() {
+    let sheet = read_at_most(alloc, sheet, SHEET_BYTES as u64 + 1)?;
+    let mut out = [0u8; SHEET_BYTES];
+    if SHEET_BYTES < sheet.len() {
         let mut w = Writer::new(&mut out);
         Refusal::SheetTooLong.put(&mut w);
         return told.write_all(w.written());

@@ -33,12 +33,12 @@ pub record Part-way (s : List ℕ) (v w : Walk) (first now : Writer) : Type 0 wh
 
 module _ (s : List ℕ) (v w : Walk) (first now : Writer) (k : Part-way s v w first now) where
   pub way_more : length s ≤ sheet_limit → w.at < length s → now.at ≤ 4072 → (r : Reach) → Stepped s w r → (next : Writer)
-      → next ≡ with_text now (cut_line w.at (r.next.at - w.at) r.fate) → Part-way s v r.next first next
+      → next ≡ with_text now (cut_line w.at (r.next.at - w.at) r.fault) → Part-way s v r.next first next
   way_more l h few r g next p =
-      let cut = cut_line w.at (r.next.at - w.at) r.fate in
+      let cut = cut_line w.at (r.next.at - w.at) r.fault in
       let a = g.further in
       let b = g.inside in
-      let n = cut-size w.at (r.next.at - w.at) (omega arith) (omega arith) r.fate in
+      let n = cut-size w.at (r.next.at - w.at) (omega arith) (omega arith) r.fault in
       let q = length-append k.done cut in
       let e = ap (λ (x : Writer). x.at) p ∙ goes cut now (omega arith) in
       record {

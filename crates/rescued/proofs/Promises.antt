@@ -1,6 +1,6 @@
 -- Request (m) as theorems: the stretches are the input exactly; the kept sheet is always accepted; a good sheet comes out unchanged and has
 -- no report line, and no other has none; which number is given; how much room is enough. Assumes nothing.
-use Rattle.std.specs.Prelude.{Err, Ok, Option}
+use Rattle.std.specs.Prelude.{Err, Ok, Option, Some, None}
 use Prim.Native.Nat.{ℕ, ◌+◌, ◌-◌, ◌*◌, ◌<◌, ◌≤◌}
 use native.Mathlib.Omega.{arith}
 use mathlib.Core.Path.{◌≡◌, refl, sym, ap, subst, ◌∙◌}
@@ -21,12 +21,12 @@ use Rattle.sheet.specs.Lines.{starts_of, line_at, sheet_text, sheet_check}
 use Rattle.sheet.specs.Steps.{value_end}
 use Rattle.sheet.specs.Walks.{key_before}
 use Rattle.sheet.specs.declared.walk.Walk.{Walk}
+use Rattle.sheet.specs.declared.line.LineFault.{LineFault}
+use Rattle.sheet.specs.declared.line.LineFault.TheVariants.{NoForm, NotAbove}
 use Rattle.sheet.proofs.Accepted.{GoesUp, accepted_up}
 use Rattle.sheet.proofs.Forms.{line-bytes, line_long, written-length}
 use Rattle.sheet.proofs.Walks.{at_first}
 use Rattle.sheet.proofs.Texts.{Rises, form_good, text-accepted}
-use Rattle.rescued.specs.declared.Fate.{Fate}
-use Rattle.rescued.specs.declared.Fate.TheVariants.{Kept, NoForm, NoOrder}
 use Rattle.rescued.specs.declared.walk.Reach.{Reach}
 use Rattle.rescued.specs.Stretches.{Stretch, text_of, fate_at, stretches_from, stretches_of, kept_text, cut_head, cut_line, kept_over, report_over, kept_of, report_of, laid, is_dropped, dropped, kept, cut_lines, Contiguous}
 use Rattle.rescued.specs.Answers.{rescued_of, rescued_numbers}
@@ -43,7 +43,7 @@ module _ (s : List ℕ) where
       ends : (w : Walk) → length s ≤ w.at → laid s (ahead s w) ≡ drop w.at s
       ends w h = ap (laid s) (none_ahead s w h) ∙ sym (drop_of_length-le s h)
 
-      turns : (w : Walk) → w.at < length s → (r : Reach) → Stepped s w r → Meant s w r r.fate → laid s (ahead s r.next) ≡ drop r.next.at s → laid s (ahead s w) ≡ drop w.at s
+      turns : (w : Walk) → w.at < length s → (r : Reach) → Stepped s w r → Meant s w r r.fault → laid s (ahead s r.next) ≡ drop r.next.at s → laid s (ahead s w) ≡ drop w.at s
       turns w l r k m i =
           let f = k.further in
           let n : w.at + (r.next.at - w.at) ≡ r.next.at = omega arith in
@@ -58,19 +58,18 @@ module _ (s : List ℕ) where
       ends : (w : Walk) → length s ≤ w.at → w.at ≤ length s → Contiguous (length s) w.at (ahead s w)
       ends w h l = subst (Contiguous (length s) w.at) (sym (none_ahead s w h)) (omega arith)
 
-      turns : (w : Walk) → w.at < length s → (r : Reach) → Stepped s w r → Meant s w r r.fate → (r.next.at ≤ length s → Contiguous (length s) r.next.at (ahead s r.next))
+      turns : (w : Walk) → w.at < length s → (r : Reach) → Stepped s w r → Meant s w r r.fault → (r.next.at ≤ length s → Contiguous (length s) r.next.at (ahead s r.next))
           → w.at ≤ length s → Contiguous (length s) w.at (ahead s w)
       turns w l r k m i h = subst (Contiguous (length s) w.at) (sym k.passed) (refl, k.further, i k.inside)
 
   -- the kept lines as entries
-  abbrev kept_entry : Fate → Entry → List Entry → List Entry
-  kept_entry Kept e es = e ∷ es
-  kept_entry NoForm e es = es
-  kept_entry NoOrder e es = es
+  abbrev kept_entry : Option LineFault → Entry → List Entry → List Entry
+  kept_entry None e es = e ∷ es
+  kept_entry (Some _) e es = es
 
   abbrev entries : List Stretch → List Entry
   entries [] = []
-  entries (x ∷ xs) = kept_entry x.fate (line_at s x.start) (entries xs)
+  entries (x ∷ xs) = kept_entry x.fault (line_at s x.start) (entries xs)
 
   abbrev Risen : Walk → Type 0
   Risen w = Rises (key_before s w.last) (entries (ahead s w)) × (sheet_text (entries (ahead s w)) ≡ kept_over s (ahead s w))
@@ -90,35 +89,34 @@ module _ (s : List ℕ) where
       ends w h = subst (λ (xs : List Stretch). Rises (key_before s w.last) (entries xs) × (sheet_text (entries xs) ≡ kept_over s xs)) (sym (none_ahead s w h)) (tt, refl)
 
       -- by what becomes of the line
-      on : (w : Walk) (at : ℕ) (next : Walk) (f : Fate) → Meant s w (record { fate = f; next = next }) f → Risen next
-          → Rises (key_before s w.last) (entries (record { start = w.at; end = next.at; fate = f } ∷ ahead s next))
-          × (sheet_text (entries (record { start = w.at; end = next.at; fate = f } ∷ ahead s next)) ≡ kept_over s (record { start = w.at; end = next.at; fate = f } ∷ ahead s next))
-      on w at next Kept m i =
+      on : (w : Walk) (at : ℕ) (next : Walk) (f : Option LineFault) → Meant s w (record { fault = f; next = next }) f → Risen next
+          → Rises (key_before s w.last) (entries (record { start = w.at; end = next.at; fault = f } ∷ ahead s next))
+          × (sheet_text (entries (record { start = w.at; end = next.at; fault = f } ∷ ahead s next)) ≡ kept_over s (record { start = w.at; end = next.at; fault = f } ∷ ahead s next))
+      on w at next None m i =
           let k : key_before s next.last ≡ key (line_at s w.at) = ap (λ (x : Walk). key_before s x.last) m.2 in
           let e : take (next.at - w.at) (drop w.at s) ≡ written (line_at s w.at) =
           ap (λ (x : Walk). take (x.at - w.at) (drop w.at s)) m.2 ∙ line-text w.at m.0 in (
             (form_good (drop w.at s) m.0, m.1, subst (λ (x : List ℕ). Rises x (entries (ahead s next))) k i.0),
             ap (λ (x : List ℕ). written (line_at s w.at) ++ x) i.1 ∙ ap (λ (x : List ℕ). x ++ kept_over s (ahead s next)) (sym e),
           )
-      on w at next NoForm m i = (subst (λ (x : Option ℕ). Rises (key_before s x) (entries (ahead s next))) m.1 i.0, i.1)
-      on w at next NoOrder m i = (subst (λ (x : Option ℕ). Rises (key_before s x) (entries (ahead s next))) m.2 i.0, i.1)
+      on w at next (Some NoForm) m i = (subst (λ (x : Option ℕ). Rises (key_before s x) (entries (ahead s next))) m.1 i.0, i.1)
+      on w at next (Some NotAbove) m i = (subst (λ (x : Option ℕ). Rises (key_before s x) (entries (ahead s next))) m.2 i.0, i.1)
 
-      turns : (w : Walk) → w.at < length s → (r : Reach) → Stepped s w r → Meant s w r r.fate → Risen r.next → Risen w
+      turns : (w : Walk) → w.at < length s → (r : Reach) → Stepped s w r → Meant s w r r.fault → Risen r.next → Risen w
       turns w l r k m i =
           subst (λ (xs : List Stretch). Rises (key_before s w.last) (entries xs) × (sheet_text (entries xs) ≡ kept_over s xs)) (sym k.passed)
-          (on w w.at r.next r.fate m i)
+          (on w w.at r.next r.fault m i)
 
   -- a kept text is no longer than its stretch
-  kept_less : (f : Fate) (t : List ℕ) → length (kept_text f t) ≤ length t
-  kept_less Kept t = omega arith
-  kept_less NoForm t = omega arith
-  kept_less NoOrder t = omega arith
+  kept_less : (f : Option LineFault) (t : List ℕ) → length (kept_text f t) ≤ length t
+  kept_less None t = omega arith
+  kept_less (Some _) t = omega arith
 
   over_less : (xs : List Stretch) → length (kept_over s xs) ≤ length (laid s xs)
   unfolding kept_over
   over_less [] = omega arith
   over_less (x ∷ xs) =
-      let a = kept_less x.fate (text_of s x) in
+      let a = kept_less x.fault (text_of s x) in
       let b = over_less xs in
       simp length-append (omega arith)
 
@@ -143,18 +141,18 @@ module _ (s : List ℕ) where
   good_unchanged h = let a = all_kept [] (starts_of s) (accepted_up s h) in (a.0 ∙ laid_exactly, a.1)
 
   -- and no other sheet has no report line
-  cut-some : (start size : ℕ) (f : Fate) (rest : List ℕ) → cut_line start size f ++ rest ≡ [] → (f ≡ Kept) × (rest ≡ [])
+  cut-some : (start size : ℕ) (f : Option LineFault) (rest : List ℕ) → cut_line start size f ++ rest ≡ [] → (f ≡ None) × (rest ≡ [])
   unfolding cut_line
-  cut-some start size Kept rest e = (refl, e)
-  cut-some start size NoForm rest e = let z : length (cut_head start size (0x20 ∷ 0x66 ∷ 0x6F ∷ 0x72 ∷ 0x6D ∷ 0x29 ∷ 0x0A ∷ []) ++ rest) ≡ 0 = ap length e in absurd (omega arith)
-  cut-some start size NoOrder rest e = let z : length (cut_head start size (0x20 ∷ 0x6F ∷ 0x72 ∷ 0x64 ∷ 0x65 ∷ 0x72 ∷ 0x29 ∷ 0x0A ∷ []) ++ rest) ≡ 0 = ap length e in absurd (omega arith)
+  cut-some start size None rest e = (refl, e)
+  cut-some start size (Some NoForm) rest e = let z : length (cut_head start size (0x20 ∷ 0x66 ∷ 0x6F ∷ 0x72 ∷ 0x6D ∷ 0x29 ∷ 0x0A ∷ []) ++ rest) ≡ 0 = ap length e in absurd (omega arith)
+  cut-some start size (Some NotAbove) rest e = let z : length (cut_head start size (0x20 ∷ 0x6F ∷ 0x72 ∷ 0x64 ∷ 0x65 ∷ 0x72 ∷ 0x29 ∷ 0x0A ∷ []) ++ rest) ≡ 0 = ap length e in absurd (omega arith)
 
   none-cut : (xs : List Stretch) → report_over xs ≡ [] → kept_over s xs ≡ laid s xs
   unfolding report_over kept_over
   none-cut [] e = refl
   none-cut (x ∷ xs) e =
-      let c = cut-some x.start (x.end - x.start) x.fate (report_over xs) e in
-      ap (λ (f : Fate). kept_text f (text_of s x) ++ kept_over s xs) c.0 ∙ ap (λ (y : List ℕ). text_of s x ++ y) (none-cut xs c.1)
+      let c = cut-some x.start (x.end - x.start) x.fault (report_over xs) e in
+      ap (λ (f : Option LineFault). kept_text f (text_of s x) ++ kept_over s xs) c.0 ∙ ap (λ (y : List ℕ). text_of s x ++ y) (none-cut xs c.1)
 
   pub none_exactly : length s ≤ sheet_limit → (report_of s ≡ []) ↔ (sheet_check s ≡ Ok tt)
   none_exactly h = (λ e. subst (λ (x : List ℕ). sheet_check x ≡ Ok tt) (none-cut (stretches_of s) e ∙ laid_exactly) (kept-accepted h), λ a. (good_unchanged a).1)
@@ -167,19 +165,19 @@ module _ (s : List ℕ) where
       ends : (w : Walk) → length s ≤ w.at → length (report_over (ahead s w)) ≤ 19 * (length s - w.at)
       ends w l = subst (λ (xs : List Stretch). length (report_over xs) ≤ 19 * (length s - w.at)) (sym (none_ahead s w l)) (omega arith)
 
-      long : (w : Walk) (r : Reach) → Stepped s w r → (f : Fate) → Meant s w r f → f ≡ NoOrder → 10 ≤ r.next.at - w.at
-      long w r k Kept m e = let z : ◌≡◌ {A = ℕ} 0 1 = cc in absurd (omega arith)
-      long w r k NoForm m e = let z : ◌≡◌ {A = ℕ} 0 1 = cc in absurd (omega arith)
-      long w r k NoOrder m e = let n = form_reach s w r k m.0 in let l = line_long s w.at m.0 in omega arith
+      long : (w : Walk) (r : Reach) → Stepped s w r → (f : Option LineFault) → Meant s w r f → f ≡ Some NotAbove → 10 ≤ r.next.at - w.at
+      long w r k None m e = let z : ◌≡◌ {A = ℕ} 0 1 = cc in absurd (omega arith)
+      long w r k (Some NoForm) m e = let z : ◌≡◌ {A = ℕ} 0 1 = cc in absurd (omega arith)
+      long w r k (Some NotAbove) m e = let n = form_reach s w r k m.0 in let l = line_long s w.at m.0 in omega arith
 
-      turns : (w : Walk) → w.at < length s → (r : Reach) → Stepped s w r → Meant s w r r.fate → length (report_over (ahead s r.next)) ≤ 19 * (length s - r.next.at)
+      turns : (w : Walk) → w.at < length s → (r : Reach) → Stepped s w r → Meant s w r r.fault → length (report_over (ahead s r.next)) ≤ 19 * (length s - r.next.at)
           → length (report_over (ahead s w)) ≤ 19 * (length s - w.at)
       turns w l r k m i =
           let f = k.further in
           let g = k.inside in
-          let c = cut-bytes w.at (r.next.at - w.at) (omega arith) (omega arith) (omega arith) r.fate (long w r k r.fate m) in
-          let e : length (report_over (ahead s w)) ≡ length (cut_line w.at (r.next.at - w.at) r.fate) + length (report_over (ahead s r.next)) =
-          ap (λ (xs : List Stretch). length (report_over xs)) k.passed ∙ length-append (cut_line w.at (r.next.at - w.at) r.fate) (report_over (ahead s r.next)) in
+          let c = cut-bytes w.at (r.next.at - w.at) (omega arith) (omega arith) (omega arith) r.fault (long w r k r.fault m) in
+          let e : length (report_over (ahead s w)) ≡ length (cut_line w.at (r.next.at - w.at) r.fault) + length (report_over (ahead s r.next)) =
+          ap (λ (xs : List Stretch). length (report_over xs)) k.passed ∙ length-append (cut_line w.at (r.next.at - w.at) r.fault) (report_over (ahead s r.next)) in
           omega arith
 
   pub enough : length s ≤ sheet_limit → (room space : ℕ) → length s ≤ room → 19 * length s ≤ space
@@ -213,45 +211,43 @@ module _ (s : List ℕ) where
 pub report_dropped : (xs : List Stretch) → report_over xs ≡ cut_lines (dropped xs)
 unfolding report_over cut_line
 report_dropped [] = refl
-report_dropped (x ∷ xs) = by x.fate (report_dropped xs)
+report_dropped (x ∷ xs) = by x.fault (report_dropped xs)
   where
-    by : (f : Fate) → report_over xs ≡ cut_lines (dropped xs)
-        → cut_line x.start (x.end - x.start) f ++ report_over xs ≡ cut_lines (pick (is_dropped f) (record { start = x.start; end = x.end; fate = f } ∷ dropped xs) (dropped xs))
-    by Kept e = e
-    by NoForm e = ap (λ (y : List ℕ). cut_line x.start (x.end - x.start) NoForm ++ y) e
-    by NoOrder e = ap (λ (y : List ℕ). cut_line x.start (x.end - x.start) NoOrder ++ y) e
+    by : (f : Option LineFault) → report_over xs ≡ cut_lines (dropped xs)
+        → cut_line x.start (x.end - x.start) f ++ report_over xs ≡ cut_lines (pick (is_dropped f) (record { start = x.start; end = x.end; fault = f } ∷ dropped xs) (dropped xs))
+    by None e = e
+    by (Some fault) e = ap (λ (y : List ℕ). cut_line x.start (x.end - x.start) (Some fault) ++ y) e
 
 pub kept-laid : (s : List ℕ) (xs : List Stretch) → kept_over s xs ≡ laid s (kept xs)
 unfolding kept_over
 kept-laid s [] = refl
-kept-laid s (x ∷ xs) = by x.fate (kept-laid s xs)
+kept-laid s (x ∷ xs) = by x.fault (kept-laid s xs)
   where
-    by : (f : Fate) → kept_over s xs ≡ laid s (kept xs) → kept_text f (text_of s x) ++ kept_over s xs ≡ laid s (pick (is_dropped f) (kept xs) (x ∷ kept xs))
-    by Kept e = ap (λ (y : List ℕ). text_of s x ++ y) e
-    by NoForm e = e
-    by NoOrder e = e
+    by : (f : Option LineFault) → kept_over s xs ≡ laid s (kept xs) → kept_text f (text_of s x) ++ kept_over s xs ≡ laid s (pick (is_dropped f) (kept xs) (x ∷ kept xs))
+    by None e = ap (λ (y : List ℕ). text_of s x ++ y) e
+    by (Some _) e = e
 
-pub dropped_exactly : (x : Stretch) (xs : List Stretch) → Memᴰ x (dropped xs) ↔ (Memᴰ x xs × (is_dropped x.fate ≡ true))
+pub dropped_exactly : (x : Stretch) (xs : List Stretch) → Memᴰ x (dropped xs) ↔ (Memᴰ x xs × (is_dropped x.fault ≡ true))
 dropped_exactly x xs = (from xs, λ m. to xs m.0 m.1)
   where
-    from : (xs : List Stretch) → Memᴰ x (dropped xs) → Memᴰ x xs × (is_dropped x.fate ≡ true)
+    from : (xs : List Stretch) → Memᴰ x (dropped xs) → Memᴰ x xs × (is_dropped x.fault ≡ true)
     from [] m = absurd (Memᴰ.not-nil m)
-    from (y ∷ ys) m = on (is_dropped y.fate) refl m (from ys)
+    from (y ∷ ys) m = on (is_dropped y.fault) refl m (from ys)
       where
-        on : (b : Bool) → is_dropped y.fate ≡ b → Memᴰ x (pick b (y ∷ dropped ys) (dropped ys)) → (Memᴰ x (dropped ys) → Memᴰ x ys × (is_dropped x.fate ≡ true))
-            → Memᴰ x (y ∷ ys) × (is_dropped x.fate ≡ true)
+        on : (b : Bool) → is_dropped y.fault ≡ b → Memᴰ x (pick b (y ∷ dropped ys) (dropped ys)) → (Memᴰ x (dropped ys) → Memᴰ x ys × (is_dropped x.fault ≡ true))
+            → Memᴰ x (y ∷ ys) × (is_dropped x.fault ≡ true)
         on true e m rest =
-            ⊎_elim (λ p. (Memᴰ.head p, ap (λ (z : Stretch). is_dropped z.fate) p ∙ e)) (λ k. let r = rest k in (Memᴰ.tail r.0, r.1)) (Memᴰ.cases_cons m)
+            ⊎_elim (λ p. (Memᴰ.head p, ap (λ (z : Stretch). is_dropped z.fault) p ∙ e)) (λ k. let r = rest k in (Memᴰ.tail r.0, r.1)) (Memᴰ.cases_cons m)
         on false e m rest = let r = rest m in (Memᴰ.tail r.0, r.1)
 
-    to : (xs : List Stretch) → Memᴰ x xs → is_dropped x.fate ≡ true → Memᴰ x (dropped xs)
+    to : (xs : List Stretch) → Memᴰ x xs → is_dropped x.fault ≡ true → Memᴰ x (dropped xs)
     to [] m d = absurd (Memᴰ.not-nil m)
-    to (y ∷ ys) m d = on (is_dropped y.fate) refl (Memᴰ.cases_cons m) (λ k. to ys k d)
+    to (y ∷ ys) m d = on (is_dropped y.fault) refl (Memᴰ.cases_cons m) (λ k. to ys k d)
       where
-        on : (b : Bool) → is_dropped y.fate ≡ b → (x ≡ y) ⊎ Memᴰ x ys → (Memᴰ x ys → Memᴰ x (dropped ys)) → Memᴰ x (pick b (y ∷ dropped ys) (dropped ys))
+        on : (b : Bool) → is_dropped y.fault ≡ b → (x ≡ y) ⊎ Memᴰ x ys → (Memᴰ x ys → Memᴰ x (dropped ys)) → Memᴰ x (pick b (y ∷ dropped ys) (dropped ys))
         on true e (inl p) rest = Memᴰ.head p
         on true e (inr k) rest = Memᴰ.tail (rest k)
-        on false e (inl p) rest = let z : true ≡ false = sym d ∙ ap (λ (w : Stretch). is_dropped w.fate) p ∙ e in let y : ◌≡◌ {A = ℕ} 0 1 = cc in absurd (omega arith)
+        on false e (inl p) rest = let z : true ≡ false = sym d ∙ ap (λ (w : Stretch). is_dropped w.fault) p ∙ e in let y : ◌≡◌ {A = ℕ} 0 1 = cc in absurd (omega arith)
         on false e (inr k) rest = rest k
 
 -- the parts of a report, from byte 0 on, are the report: what is written of the first and the report from there on

@@ -23,8 +23,6 @@ use Rattle.sheet.specs.declared.line.LineFault.TheVariants as step
 use Rattle.sheet.proofs.Forms.{line-fits, line_long}
 use Rattle.sheet.proofs.Lines.{no_lines, some-line, next_line}
 use Rattle.writing.proofs.Sizes.{digit-size, number_size}
-use Rattle.rescued.specs.declared.Fate.{Fate}
-use Rattle.rescued.specs.declared.Fate.TheVariants.{Kept, NoForm, NoOrder}
 use Rattle.rescued.specs.declared.walk.Reach.{Reach}
 use Rattle.rescued.specs.Stretches.{Stretch, fate_at, last_after, end_before, stretches_from, kept_text, cut_head, cut_line, kept_over, report_over}
 use Rattle.rescued.specs.Places.{line_end, dropped_at, ahead, Stepped}
@@ -89,10 +87,9 @@ end_before_lem s n h = by (ltb n (length s)) refl
 module _ (s : List ℕ) (w : Walk) where
   abbrev pub Fated : Result (Option (Form Walk)) LineFault → Type 0
   Fated (Ok None) = length s ≤ w.at
-  Fated (Err step.NoForm) = fate_at s (key_before s w.last) w.at ≡ NoForm
-  Fated (Err step.NotAbove) = fate_at s (key_before s w.last) w.at ≡ NoOrder
+  Fated (Err fault) = fate_at s (key_before s w.last) w.at ≡ Some fault
   Fated (Ok (Some form)) =
-      (fate_at s (key_before s w.last) w.at ≡ Kept) × (is_form (drop w.at s) ≡ true) × (form.next ≡ record { at = value_end s w.at + 3; last = Some w.at })
+      (fate_at s (key_before s w.last) w.at ≡ None) × (is_form (drop w.at s) ≡ true) × (form.next ≡ record { at = value_end s w.at + 3; last = Some w.at })
 
   pub fated : (r : Result (Option (Form Walk)) LineFault) → r ≡ reached s w → Fated r
   unfolding reached fate_at
@@ -108,45 +105,40 @@ module _ (s : List ℕ) (w : Walk) where
       by false false d p q r = rw q
 
   -- the stretches to come are this one and those from behind it on
-  passed : (f : Fate) (next : Walk) → starts_ahead s w ≡ w.at ∷ starts_ahead s next → next.at ≤ length s → fate_at s (key_before s w.last) w.at ≡ f
+  passed : (f : Option LineFault) (next : Walk) → starts_ahead s w ≡ w.at ∷ starts_ahead s next → next.at ≤ length s → fate_at s (key_before s w.last) w.at ≡ f
       → key_before s next.last ≡ last_after s (key_before s w.last) w.at f
-      → ahead s w ≡ record { start = w.at; end = next.at; fate = f } ∷ ahead s next
+      → ahead s w ≡ record { start = w.at; end = next.at; fault = f } ∷ ahead s next
   unfolding stretches_from
   passed f next e l g k =
       ap (stretches_from s (key_before s w.last)) e
-      ∙ ap (λ (x : Fate). record { start = w.at; end = end_before s (starts_ahead s next); fate = x } ∷ stretches_from s (last_after s (key_before s w.last) w.at x) (starts_ahead s next)) g
-      ∙ ap (λ (n : ℕ). record { start = w.at; end = n; fate = f } ∷ stretches_from s (last_after s (key_before s w.last) w.at f) (starts_ahead s next)) (end_before_lem s next.at l)
-      ∙ ap (λ (x : List ℕ). record { start = w.at; end = next.at; fate = f } ∷ stretches_from s x (starts_ahead s next)) (sym k)
+      ∙ ap (λ (x : Option LineFault). record { start = w.at; end = end_before s (starts_ahead s next); fault = x } ∷ stretches_from s (last_after s (key_before s w.last) w.at x) (starts_ahead s next)) g
+      ∙ ap (λ (n : ℕ). record { start = w.at; end = n; fault = f } ∷ stretches_from s (last_after s (key_before s w.last) w.at f) (starts_ahead s next)) (end_before_lem s next.at l)
+      ∙ ap (λ (x : List ℕ). record { start = w.at; end = next.at; fault = f } ∷ stretches_from s x (starts_ahead s next)) (sym k)
 
   module _ (h : w.at < length s) (z : Standing s w.last) where
-    pub at_no_form : Err step.NoForm ≡ reached s w → Stepped s w (dropped_at s w NoForm)
-    at_no_form e =
-        let f : fate_at s (key_before s w.last) w.at ≡ NoForm = fated (Err step.NoForm) e in
-        record { further = end-further s w.at h; inside = end-inside s w.at h; standing = z; passed = passed NoForm (record { at = line_end s w.at; last = w.last }) (line_next s w.at h) (end-inside s w.at h) f refl }
+    pub at_fault : (fault : LineFault) → Err fault ≡ reached s w → Stepped s w (dropped_at s w fault)
+    at_fault fault e =
+        let f : fate_at s (key_before s w.last) w.at ≡ Some fault = fated (Err fault) e in
+        record { further = end-further s w.at h; inside = end-inside s w.at h; standing = z; passed = passed (Some fault) (record { at = line_end s w.at; last = w.last }) (line_next s w.at h) (end-inside s w.at h) f refl }
 
-    pub at_not_above : Err step.NotAbove ≡ reached s w → Stepped s w (dropped_at s w NoOrder)
-    at_not_above e =
-        let f : fate_at s (key_before s w.last) w.at ≡ NoOrder = fated (Err step.NotAbove) e in
-        record { further = end-further s w.at h; inside = end-inside s w.at h; standing = z; passed = passed NoOrder (record { at = line_end s w.at; last = w.last }) (line_next s w.at h) (end-inside s w.at h) f refl }
-
-    pub at_form : (form : Form Walk) → Ok (Some form) ≡ reached s w → Stepped s w (record { fate = Kept; next = form.next })
+    pub at_form : (form : Form Walk) → Ok (Some form) ≡ reached s w → Stepped s w (record { fault = None; next = form.next })
     at_form form e =
         let f : Fated (Ok (Some form)) = fated (Ok (Some form)) e in
         let i = f.1 in
         let m = line_long s w.at i in
-        subst (λ (x : Walk). Stepped s w (record { fate = Kept; next = x })) (sym f.2)
-        (record { further = omega arith; inside = line-fits s w.at i; standing = i; passed = passed Kept (record { at = value_end s w.at + 3; last = Some w.at }) (next_line s w.at i) (line-fits s w.at i) f.0 refl })
+        subst (λ (x : Walk). Stepped s w (record { fault = None; next = x })) (sym f.2)
+        (record { further = omega arith; inside = line-fits s w.at i; standing = i; passed = passed None (record { at = value_end s w.at + 3; last = Some w.at }) (next_line s w.at i) (line-fits s w.at i) f.0 refl })
 
     pub at_end : Ok None ≡ reached s w → ⊥
     at_end e = let f : length s ≤ w.at = fated (Ok None) e in omega arith
 
 -- what is put of a stretch, and what is to come
 module _ (s : List ℕ) (w : Walk) (r : Reach) (k : Stepped s w r) where
-  pub kept_turn : kept_over s (ahead s w) ≡ kept_text r.fate (take (r.next.at - w.at) (drop w.at s)) ++ kept_over s (ahead s r.next)
+  pub kept_turn : kept_over s (ahead s w) ≡ kept_text r.fault (take (r.next.at - w.at) (drop w.at s)) ++ kept_over s (ahead s r.next)
   unfolding kept_over
   kept_turn = ap (kept_over s) k.passed
 
-  pub report_turn : report_over (ahead s w) ≡ cut_line w.at (r.next.at - w.at) r.fate ++ report_over (ahead s r.next)
+  pub report_turn : report_over (ahead s w) ≡ cut_line w.at (r.next.at - w.at) r.fault ++ report_over (ahead s r.next)
   unfolding report_over
   report_turn = ap report_over k.passed
 
@@ -179,18 +171,18 @@ module _ (s : List ℕ) (at found : ℕ) (h : at < length s) (f : found ≡ at +
   end_last k = let q = e in omega arith
 
 -- how long a line of the report is
-pub cut-size : (start n : ℕ) → start < 100000 → n < 100000 → (f : Fate) → length (cut_line start n f) ≤ 24
+pub cut-size : (start n : ℕ) → start < 100000 → n < 100000 → (f : Option LineFault) → length (cut_line start n f) ≤ 24
 unfolding cut_line
-cut-size start n h k Kept = omega arith
-cut-size start n h k NoForm = let a = number_size start h in let b = number_size n k in simp length-append (omega arith)
-cut-size start n h k NoOrder = let a = number_size start h in let b = number_size n k in simp length-append (omega arith)
+cut-size start n h k None = omega arith
+cut-size start n h k (Some step.NoForm) = let a = number_size start h in let b = number_size n k in simp length-append (omega arith)
+cut-size start n h k (Some step.NotAbove) = let a = number_size start h in let b = number_size n k in simp length-append (omega arith)
 
 -- and how long for each byte of its stretch; a form has more than one
-pub cut-bytes : (start n : ℕ) → start < 100000 → 1 ≤ n → n < 100000 → (f : Fate) → (f ≡ NoOrder → 10 ≤ n) → length (cut_line start n f) ≤ 19 * n
+pub cut-bytes : (start n : ℕ) → start < 100000 → 1 ≤ n → n < 100000 → (f : Option LineFault) → (f ≡ Some step.NotAbove → 10 ≤ n) → length (cut_line start n f) ≤ 19 * n
 unfolding cut_line
-cut-bytes start n h l k Kept g = omega arith
-cut-bytes start n h l k NoOrder g = let a = number_size start h in let b = number_size n k in let c = g refl in simp length-append (omega arith)
-cut-bytes start n h l k NoForm g = by (ltb n 10) refl
+cut-bytes start n h l k None g = omega arith
+cut-bytes start n h l k (Some step.NotAbove) g = let a = number_size start h in let b = number_size n k in let c = g refl in simp length-append (omega arith)
+cut-bytes start n h l k (Some step.NoForm) g = by (ltb n 10) refl
   where
     by : (b : Bool) → ltb n 10 ≡ b → length (cut_head start n (0x20 ∷ 0x66 ∷ 0x6F ∷ 0x72 ∷ 0x6D ∷ 0x29 ∷ 0x0A ∷ [])) ≤ 19 * n
     by true e = let a = number_size start h in let b = digit-size n (ltb-true _ _ e) in simp length-append (omega arith)

@@ -4,7 +4,7 @@ use Rattle.std.proofs.Props.{props}
 use Rattle.runs.specs.Bytes.{index_of}
 use Rattle.sheet.specs.Walks.{key_before, Standing, starts_ahead}
 use Rattle.sheet.specs.declared.walk.Walk.{Walk}
-use Rattle.rescued.specs.declared.Fate.{Fate}
+use Rattle.sheet.specs.declared.line.LineFault.{LineFault}
 use Rattle.rescued.specs.declared.walk.Reach.{Reach}
 use Rattle.rescued.specs.Stretches.{Stretch, stretches_from}
 
@@ -13,8 +13,8 @@ abbrev pub line_end : List ℕ → ℕ → ℕ
 line_end s at = min (at + index_of 0x0A (drop at s) + 1) (length s)
 
 -- a stretch that is dropped, and the walk from behind it
-abbrev pub dropped_at : List ℕ → Walk → Fate → Reach
-dropped_at s w fate = record { fate = fate; next = record { at = line_end s w.at; last = w.last } }
+abbrev pub dropped_at : List ℕ → Walk → LineFault → Reach
+dropped_at s w fault = record { fault = Some fault; next = record { at = line_end s w.at; last = w.last } }
 
 -- the stretches from the walk's place on
 abbrev pub ahead : List ℕ → Walk → List Stretch
@@ -25,7 +25,7 @@ pub record Stepped (s : List ℕ) (w : Walk) (r : Reach) : Type 0 where
   pub further : w.at < r.next.at
   pub inside : r.next.at ≤ length s
   pub standing : Standing s r.next.last
-  pub passed : ahead s w ≡ record { start = w.at; end = r.next.at; fate = r.fate } ∷ ahead s r.next
+  pub passed : ahead s w ≡ record { start = w.at; end = r.next.at; fault = r.fault } ∷ ahead s r.next
 
 -- that a form stands at the last line has one proof at most, so that a struct can hold it
 pub Standing-prop : (s : List ℕ) (last : Option ℕ) → IsProp (Standing s last)

@@ -4,7 +4,7 @@ ghost use Rattle.writing.specs.Placed.{Wrote};
 ghost use Rattle.rescued.specs.Stretches.{kept_of, report_of};
 ghost use Rattle.rescued.specs.Answers.{rescued_of, kept_left, report_left};
 
-use crate::walk::{next_stretch, put_cut, put_kept};
+use crate::walk::{next_stretch, put_cut};
 use refusals::Refusal;
 use sheet::limits::SHEET_BYTES;
 use sheet::walk::Walk;
@@ -29,8 +29,10 @@ pub(crate) fn put_both(sheet: &[u8], kept: &mut [u8], report: &mut [u8]) -> Size
         let reached = next_stretch(sheet, walk);
         walk = reached.next;
         let end = walk.at;
-        put_kept(&mut kept, &sheet[at..end], reached.fate);
-        put_cut(&mut report, at, end - at, reached.fate);
+        match reached.fault {
+            None => kept.put(&sheet[at..end]),
+            Some(fault) => put_cut(&mut report, at, end - at, fault),
+        }
     }
     Sizes {
         kept: kept.at(),

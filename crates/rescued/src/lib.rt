@@ -5,11 +5,3 @@
 pub mod entry;
 pub mod part;
 mod walk;
-
-// What becomes of a stretch of the input: it is kept; it is no form; it is a form that does not stand above the last kept one.
-#[derive(Clone, Copy)]
-pub enum Fate {
-    Kept,
-    NoForm,
-    NoOrder,
-}

@@ -74,7 +74,9 @@ impl<'s> Rest<'s> {
             let at = walk.at;
             let reached = next_stretch(sheet, walk);
             walk = reached.next;
-            put_cut(&mut w, at, walk.at - at, reached.fate);
+            if let Some(fault) = reached.fault {
+                put_cut(&mut w, at, walk.at - at, fault);
+            }
         }
         let rest = Rest {
             torn: self.torn,

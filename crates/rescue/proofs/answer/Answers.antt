@@ -11,25 +11,32 @@ use Rattle.rescue.specs.Printed.{kept_printed, report_told}
 use Rattle.rescue.proofs.Told.{long_kept, long_told, short_kept, short_told, kept_front, told_front, refusal_line}
 use Rattle.rescue.proofs.answer.Goals as goal
 
-pub returns-then-len-gt65536-clause-keeps : goal.returns-then-len-gt65536-clause-keeps
-returns-then-len-gt65536-clause-keeps g c =
+pub returns-then-len-gt-SHEET_BYTES-clause-keeps : goal.returns-then-len-gt-SHEET_BYTES-clause-keeps
+returns-then-len-gt-SHEET_BYTES-clause-keeps g c =
     told_before c.write_all.result (told_now _ _ _ kept_printed 65537 (told_none _)
-    (sym (long_kept c.in_ok-sheet.sheet.items (omega (arith, c.if-len-gt65536.true, c.len.ensures)))) c.in_ok-sheet.ensures kept_front)
+    (sym (long_kept c.in_ok-sheet.sheet.items (omega (arith, c.if-len-gt-SHEET_BYTES.true, c.len.ensures)))) c.in_ok-sheet.ensures kept_front)
 
+<<<<<<< HEAD
 pub returns-then-len-gt65536-clause-tells : goal.returns-then-len-gt65536-clause-tells
 returns-then-len-gt65536-clause-tells g c =
     let e = put_whole (refused_text (numbers_of SheetTooLong)) c.new-w.ensures c.put.ensures (omega (arith, refusal_line)) (omega (arith, refusal_line)) in
     told_of c.write_all.result _ _ _ report_told 65537 (rw (sym (c.written.ensures ∙ e)) c.write_all.ensures.bytes)
     (sym (long_told c.in_ok-sheet.sheet.items (omega (arith, c.if-len-gt65536.true, c.len.ensures)))) c.in_ok-sheet.ensures told_front
+=======
+pub returns-then-len-gt-SHEET_BYTES-clause-tells : goal.returns-then-len-gt-SHEET_BYTES-clause-tells
+returns-then-len-gt-SHEET_BYTES-clause-tells g c =
+    told_of c.write_all.result _ _ _ report_told 65537 c.write_all.ensures.bytes
+    (sym (long_told c.in_ok-sheet.sheet.items (omega (arith, c.if-len-gt-SHEET_BYTES.true, c.len.ensures)) ∙ refusal_line)) c.in_ok-sheet.ensures told_front
+>>>>>>> 83f39a0ee7c82b97e9d90ed385b600131f5e0ab4
 
 pub returns-clause-keeps : goal.returns-clause-keeps
 returns-clause-keeps g c =
     told_before c.report.result (told_now _ _ _ kept_printed 65537 c.in_ok-write_all.ensures.bytes
-    (whole_front c.put_kept-size.ensures ∙ ap kept_of c.deref.ensures.value ∙ sym (short_kept c.in_ok-sheet.sheet.items (omega (arith, c.if-len-gt65536.false, c.len.ensures))))
+    (whole_front c.put_kept-size.ensures ∙ ap kept_of c.deref.ensures.value ∙ sym (short_kept c.in_ok-sheet.sheet.items (omega (arith, c.if-len-gt-SHEET_BYTES.false, c.len.ensures))))
     c.in_ok-sheet.ensures kept_front)
 
 pub returns-clause-tells : goal.returns-clause-tells
 returns-clause-tells g c =
     told_of c.report.result _ _ _ report_told 65537 c.report.ensures
-    (ap report_of c.deref.ensures.value ∙ sym (short_told c.in_ok-sheet.sheet.items (omega (arith, c.if-len-gt65536.false, c.len.ensures))))
+    (ap report_of c.deref.ensures.value ∙ sym (short_told c.in_ok-sheet.sheet.items (omega (arith, c.if-len-gt-SHEET_BYTES.false, c.len.ensures))))
     c.in_ok-sheet.ensures told_front

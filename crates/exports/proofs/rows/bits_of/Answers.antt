@@ -1,26 +1,18 @@
--- `rows::bits_of` meets its contract: only what is no number differs from itself. Assumes nothing.
+-- `rows::bits_of` meets its contract: what is none has the bits told. Assumes nothing.
 use mathlib.Core.Path.{◌≡◌, refl, sym, subst, ◌∙◌}
-use mathlib.Core.Bool.{Bool, true, false, not}
+use mathlib.Core.Bool.{Bool, true, not}
 use lib.Dec.{T}
-use lib.Ieee.{Float, nan, inf, fin, ne, is_nan, binary32, to_bits}
-use lib.Ieee.Compare.{differs_from_itself, nan_differs}
+use lib.Ieee.{Float, nan, inf, fin, is_nan, binary32, to_bits}
 use Rattle.exports.proofs.rows.bits_of.Goals as goal
 
-told : (b : Bool) → b ≡ true → T b
-told b e = subst T (sym e) tt
+no_number : (x : Float) → is_nan x ≡ true → 0x7FC00000 ≡ to_bits binary32 x
+unfolding is_nan to_bits
+no_number nan e = refl
+no_number (inf s) e = cc
+no_number (fin s m k) e = cc
 
-no_number : 2143289344 ≡ to_bits binary32 nan
-unfolding to_bits
-no_number = refl
-
-a-number : (x : Float) → ne x x ≡ false → T (not (is_nan x))
-unfolding is_nan
-a-number nan e = subst (λ (b : Bool). T (not b)) (sym (sym nan_differs ∙ e)) tt
-a-number (inf s) e = tt
-a-number (fin s m k) e = tt
-
-pub returns-then-x : goal.returns-then-x
-returns-then-x c = subst (λ (x : Float). 2143289344 ≡ to_bits binary32 x) (sym (differs_from_itself _ (told _ c.if-x.true))) no_number
+pub returns-then-is_nan : goal.returns-then-is_nan
+returns-then-is_nan c = no_number c.args.x (sym c.is_nan.ensures.value ∙ c.if-is_nan.true)
 
 pub float_to_bits-result : goal.float_to_bits-result
-float_to_bits-result c = a-number _ c.if-x.false
+float_to_bits-result c = subst (λ (b : Bool). T (not b)) (sym c.if-is_nan.false ∙ c.is_nan.ensures.value) tt

@@ -1,12 +1,13 @@
 -- `entry::after` meets its contract. Assumes nothing.
-use Prim.Native.Nat.{◌+◌}
+use Prim.Native.Nat.{ℕ, ◌+◌}
 use native.Mathlib.Omega.{arith}
-use mathlib.Core.Path.{◌∙◌}
-use Rattle.listing.proofs.Answered.{cut-from, cut-none}
+use mathlib.Core.Path.{ap, ◌∙◌}
+use lib.ListN.{drop}
+use Rattle.listing.proofs.Answered.{cut-from, cut-least}
 use Rattle.listing.proofs.entry.after.Goals as goal
 
-pub returns-then-end-input : goal.returns-then-end-input
-returns-then-end-input c = let a = c.args in cut-from a.input.now (a.end + 1) (omega arith)
-
 pub returns : goal.returns
-returns c = let a = c.args in cut-from a.input.now a.end (omega arith) ∙ cut-none a.input.now a.end (omega arith)
+returns c =
+    let i = c.args.input.now in
+    let e = c.min.ensures in
+    cut-from i c.min.result (omega arith) ∙ ap (λ (n : ℕ). drop n i) e ∙ cut-least i (c.args.end + 1)

@@ -2,14 +2,23 @@
 use Rattle.std.proofs.Common.{rules, arith}
 use Rattle.std.proofs.lemmas.Grind.{common_steps}
 use Rattle.writing.proofs.Puts.{put_into}
+use Rattle.rescued.specs.Stretches.{cut_line}
 use Rattle.rescued.proofs.Stretched.{kept_turn, report_turn, kept-end, report_end}
 use Rattle.rescued.proofs.entry.put_both.Goals as goal
+
+pub loop-walk-preserved-in-None : goal.loop-walk-preserved-in-None
+unfolding cut_line
+loop-walk-preserved-in-None c =
+    let k = c.next_stretch-reached.ensures in
+    let e = rw c.in-None.is at (kept_turn _ _ _ k) in
+    let f = rw c.in-None.is at (report_turn _ _ _ k) in
+    (k.inside, k.standing, grind (arith, common_steps), grind (arith, common_steps))
 
 pub loop-walk-preserved : goal.loop-walk-preserved
 loop-walk-preserved c =
     let k = c.next_stretch-reached.ensures in
-    let e = kept_turn _ _ _ k in
-    let f = report_turn _ _ _ k in
+    let e = rw c.in-Some.is at (kept_turn _ _ _ k) in
+    let f = rw c.in-Some.is at (report_turn _ _ _ k) in
     (k.inside, k.standing, grind (arith, common_steps), grind (arith, common_steps))
 
 pub returns : goal.returns

@@ -10,4 +10,4 @@ use Rattle.exports.proofs.parts.RootCandidateRow.put.Goals as goal
 pub returns : goal.returns
 returns c =
     let a = c.args in
-    c.put_parts.ensures ∙ ap (λ (l : List ℕ). l ++ drop 33 a.out.now) (candidate-bytes a.self c.origin_number-origin.ensures.0 c.bit_of.ensures.0 c.bit_of-2.ensures.0 (omega arith) c.to_le_bytes-score.ensures)
+    c.put_parts.ensures ∙ ap (λ (l : List ℕ). l ++ drop 33 a.out.now) (candidate-bytes a.self c.origin_number-origin.ensures.0 c.from.ensures c.from-2.ensures (omega arith) c.to_le_bytes-score.ensures)

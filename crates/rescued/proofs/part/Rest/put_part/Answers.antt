@@ -2,13 +2,19 @@
 use Rattle.std.proofs.Common.{arith, sym, refl}
 use Rattle.writing.proofs.Puts.{put_into, same_buffer}
 use Rattle.writing.proofs.Wholes.{front}
+use Rattle.rescued.specs.Stretches.{cut_line}
 use Rattle.rescued.proofs.Parting.{way_more, way_parted}
 use Rattle.rescued.proofs.part.Rest.put_part.Goals as goal
 use Rattle.rescued.proofs.part.Rest.put_part.Goals.{then-loop-walk-test+else-at-le4072, else-loop-walk-test}
 
+pub loop-walk-preserved-in-Some : goal.loop-walk-preserved-in-Some
+loop-walk-preserved-in-Some c =
+    way_more _ _ _ _ _ c.loop-walk.invariant c.args.self.now.torn.short c.loop-walk-test.true (omega arith) _ c.next_stretch-reached.ensures _ (rw c.in-Some.is c.put_cut.ensures)
+
 pub loop-walk-preserved : goal.loop-walk-preserved
+unfolding cut_line
 loop-walk-preserved c =
-    way_more _ _ _ _ _ c.loop-walk.invariant c.args.self.now.torn.short c.loop-walk-test.true (omega arith) _ c.next_stretch-reached.ensures _ c.put_cut.ensures
+    way_more _ _ _ _ _ c.loop-walk.invariant c.args.self.now.torn.short c.loop-walk-test.true (omega arith) _ c.next_stretch-reached.ensures _ (rw c.in_default.is refl)
 
 pub shape_of-out : goal.shape_of-out
 shape_of-out c = let k = c.loop-walk.invariant in sym (same_buffer k.done c.new-w.ensures k.put)
