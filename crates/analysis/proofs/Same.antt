@@ -1,5 +1,7 @@
 -- What is said of a root's piece and place is said of those that the root was made of. The proofs of the prefix walk cite these. Assumes nothing.
-use Rattle.std.specs.Prelude.{ℕ, ◌≡◌, [], ◌∷◌, take}
+use Rattle.std.specs.Prelude.{ℕ, ◌≡◌, List, [], ◌∷◌, take}
+use Rattle.std.specs.Array.{AllOfLen}
+use native.Mathlib.Omega.{arith}
 use mathlib.Core.Path.{ap₂}
 use Rattle.tables.specs.Rows.{prefix_forms}
 use Rattle.strips.specs.Prefix.{prefix_remainder}
@@ -10,6 +12,7 @@ use Rattle.paths.specs.Chains.{all_forms}
 use Rattle.paths.specs.Walk.{root_walk, over_forms}
 use Rattle.paths.specs.Visits.{total, prefix_visits}
 use Rattle.paths.specs.declared.Prefixes.{Prefixes}
+use Rattle.paths.specs.Readings.{prefixes_of}
 use Rattle.analysis.specs.declared.piece.Piece.{Piece}
 use Rattle.analysis.specs.Places.{between, root_found}
 
@@ -33,3 +36,14 @@ module _ {p q : Piece} {m n : ℕ} where
       → total (λ form. total (prefix_visits 0 (reply p.asked.now.sheet.now.bytes.now)) (prefix_remainder (between p.asked.now.word.now m p.end) form)) prefix_forms
       ≡ total (λ form. total (prefix_visits 0 (reply q.asked.now.sheet.now.bytes.now)) (prefix_remainder (between q.asked.now.word.now n q.end) form)) prefix_forms
   visits_same e f = ap₂ (λ (r : Piece) (k : ℕ). total (λ form. total (prefix_visits 0 (reply r.asked.now.sheet.now.bytes.now)) (prefix_remainder (between r.asked.now.word.now k r.end) form)) prefix_forms) e f
+
+-- two zeros
+zeros : (xs : List ℕ) → AllOfLen (λ (n : ℕ). n ≡ 0) xs 2 → xs ≡ 0 ∷ 0 ∷ []
+zeros [] a = absurd (omega (arith, a.long))
+zeros (x ∷ []) a = absurd (omega (arith, a.long))
+zeros (x ∷ y ∷ []) a = ap₂ (λ (m n : ℕ). m ∷ n ∷ []) (a.at 0 0 (omega arith)) (a.at 1 0 (omega arith))
+zeros (x ∷ y ∷ z ∷ xs) a = absurd (omega (arith, a.long))
+
+-- the default has no prefix
+pub none_stripped : (p : Prefixes) → AllOfLen (λ (n : ℕ). n ≡ 0) p.rows 2 × p.count ≡ 0 → p ≡ prefixes_of []
+none_stripped p e = ap₂ (λ (xs : List ℕ) (n : ℕ). record { rows = xs; count = n }) (zeros p.rows e.0) e.1

@@ -141,11 +141,7 @@ pub(crate) fn with_stem(at: &Piece<'_>, kept: &mut Kept) -> usize
         start: 0,
         progressive: at.progressive,
     };
-    let prefixes = Prefixes {
-        rows: [0, 0],
-        count: 0,
-    };
-    with_root(&whole, prefixes, kept);
+    with_root(&whole, Prefixes::default(), kept);
     if at.progressive {
         return 1;
     }
