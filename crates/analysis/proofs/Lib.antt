@@ -3,6 +3,7 @@ pub mod Siblings
 pub mod Supported
 pub mod Added
 pub mod Cuts
+pub mod Same
 pub mod Turns
 pub mod Opened
 pub mod Strips

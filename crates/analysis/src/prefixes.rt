@@ -1,5 +1,5 @@
 // The readings of a stem: taken for the root itself, then with one prefix stripped, and two.
-ghost use Rattle.std.specs.Prelude.{◌≡◌, [], ◌∷◌, take};
+ghost use Rattle.std.specs.Prelude.{◌≡◌, ◌≤◌, [], ◌∷◌, take};
 ghost use Rattle.runs.specs.Runs.{begins_with};
 ghost use Rattle.tables.specs.Rows.{prefix_forms};
 ghost use Rattle.lookup.specs.Lexicons.{replies};
@@ -27,6 +27,19 @@ fn begins(text: &[u8], k: u8) -> bool
     begins_with(text, prefix_form(usize::from(k)))
 }
 
+// What prefixes leave of a piece: what stands in it from byte `start` of the word on.
+fn root_at<'a>(at: &'a Piece<'a>, start: usize) -> Root<'a>
+    requires { start ≤ at.now.end }
+    ensures { (result.at.now ≡ at.now) × (result.start ≡ start) }
+{
+    let progressive = has_supported_progressive_form(at.asked.sheet, &at.asked.word[start..at.end]);
+    Root {
+        at,
+        start,
+        progressive,
+    }
+}
+
 // One row for the second prefix, behind the first. Each function of this walk gives how many entries of the source's prefix walk it
 // counted.
 fn second_row(behind: &Root<'_>, first: u8, second: u8, kept: &mut Kept) -> usize
@@ -44,15 +57,7 @@ fn second_row(behind: &Root<'_>, first: u8, second: u8, kept: &mut Kept) -> usiz
         None => 0,
         Some(cut) => {
             let start = behind.start + cut;
-            let progressive = has_supported_progressive_form(
-                at.asked.sheet,
-                &at.asked.word[start..at.end],
-            );
-            let root = Root {
-                at,
-                start,
-                progressive,
-            };
+            let root = root_at(at, start);
             let prefixes = Prefixes {
                 rows: [first, second],
                 count: 2,
@@ -92,21 +97,13 @@ fn first_row(at: &Piece<'_>, first: u8, kept: &mut Kept) -> usize
     match rest {
         None => 0,
         Some(start) => {
-            let progressive = has_supported_progressive_form(
-                at.asked.sheet,
-                &at.asked.word[start..at.end],
-            );
-            let root = Root {
-                at,
-                start,
-                progressive,
-            };
+            let root = root_at(at, start);
             let prefixes = Prefixes {
                 rows: [first, 0],
                 count: 1,
             };
             with_root(&root, prefixes, kept);
-            if progressive {
+            if root.progressive {
                 return 1;
             }
             if !may_begin(&at.asked.word[start..at.end]) {
@@ -144,11 +141,7 @@ pub(crate) fn with_stem(at: &Piece<'_>, kept: &mut Kept) -> usize
         start: 0,
         progressive: at.progressive,
     };
-    let prefixes = Prefixes {
-        rows: [0, 0],
-        count: 0,
-    };
-    with_root(&whole, prefixes, kept);
+    with_root(&whole, Prefixes::default(), kept);
     if at.progressive {
         return 1;
     }

@@ -75,15 +75,7 @@ pub(crate) fn support_of(sheet: &Lexicon<'_>, root: &[u8], progressive: bool) ->
         range,
     };
     let letters = names.letters_of(b"");
-    if is_alone(range, letters) {
-        return Support {
-            word: letters.word,
-            head: letters.head,
-            sibling: false,
-            progressive,
-        };
-    }
-    let sibling = has_sibling(&names);
+    let sibling = !is_alone(range, letters) && has_sibling(&names);
     Support {
         word: letters.word,
         head: letters.head,

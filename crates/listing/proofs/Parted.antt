@@ -1,14 +1,10 @@
--- Texts parted by spaces, and rows one after the other, passed one by one; and lists cut by a count that may be too large. Assumes nothing.
-use Prim.Native.Nat.{ℕ, suc, ◌+◌, ◌≤◌, ◌<◌, min}
-use native.Mathlib.Omega.{arith}
+-- Texts parted by spaces, and rows one after the other, passed one by one. Assumes nothing.
+use Prim.Native.Nat.{ℕ, suc, ◌+◌, ◌≤◌, ◌<◌}
 use native.Mathlib.Numerals.{add-one}
-use mathlib.Core.Path.{◌≡◌, refl, sym, ap, ◌∙◌}
-use mathlib.Core.Bool.{Bool, true, false}
+use mathlib.Core.Path.{◌≡◌, refl, ap, ◌∙◌}
 use mathlib.Core.List.{List, [], ◌++◌, map}
-use lib.ListN.{length, take, drop, get_or, drop_of_length-le}
-use lib.Seq.{drop-cons, take_all}
-use lib.Dec.{ltb}
-use borrow.Author.Tests.{ltb-true, ltb-false}
+use lib.ListN.{length, drop, get_or, drop_of_length-le}
+use lib.Seq.{drop-cons}
 use Rattle.std.proofs.lemmas.List.Sums.{fold-append}
 use Rattle.writing.specs.Writers.{with_byte, with_text}
 use Rattle.writing.specs.declared.Writer.{Writer}
@@ -16,21 +12,6 @@ use Rattle.writing.specs.Refused.{gap, parted_from}
 use Rattle.paths.specs.Recomposed.{in_row}
 
 module _ {A : Type 0} where
-  -- a count that is larger than the list counts all of it
-  pub take_least : (k n : ℕ) (xs : List A) → length xs ≡ n → take k xs ≡ take (min k n) xs
-  take_least k n xs l = by (ltb k n) refl
-    where
-      by : (b : Bool) → ltb k n ≡ b → take k xs ≡ take (min k n) xs
-      by true e = let h : k < n = ltb-true _ _ e in let m : min k n ≡ k = omega arith in rw m
-      by false e =
-          let h : n ≤ k = ltb-false _ _ e in
-          let m : min k n ≡ n = omega arith in
-          rw m (take_all k xs (omega arith) ∙ sym (take_all n xs (omega arith)))
-
-  -- and the texts of so many elements are those that a count k allows
-  pub counted_texts : (f : A → List ℕ) (xs : List A) (n k : ℕ) → n ≡ min k (length xs) → map f (take n xs) ≡ map f (take k xs)
-  counted_texts f xs n k e = ap (map f) (ap (λ (m : ℕ). take m xs) e ∙ sym (take_least k (length xs) xs refl))
-
   -- the texts of the elements, put one by one
   module _ (f : A → List ℕ) (xs : List A) where
     -- a turn: a space, unless it is the first, and the next text

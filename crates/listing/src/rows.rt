@@ -51,10 +51,9 @@ fn put_segment(w: &mut Writer, s: Segment)
 fn put_prefixes(w: &mut Writer, row: Reading)
     ensures { w.new ≡ with_text w.old (parted (prefix_texts row)) }
 {
-    let n = usize::from(row.prefix_count).min(row.prefixes.len());
     put_parted(
         w,
-        &row.prefixes[..n],
+        row.prefix_rows(),
         |w, k| w.put(prefix_label(usize::from(k))),
     );
 }
@@ -63,8 +62,7 @@ fn put_prefixes(w: &mut Writer, row: Reading)
 fn put_segments(w: &mut Writer, row: Reading)
     ensures { w.new ≡ with_text w.old (parted (segment_texts row)) }
 {
-    let n = usize::from(row.suffix_count).min(row.segments.len());
-    put_parted(w, &row.segments[..n], |w, s| put_segment(w, s));
+    put_parted(w, row.suffixes(), |w, s| put_segment(w, s));
 }
 
 // Puts what a row says of a reading: stem, root, prefix labels, segments and score, with a space behind it.

@@ -28,10 +28,9 @@ fn written_of(s: Segment) -> &'static [u8]
 fn put_forms(w: &mut Writer, row: Reading)
     ensures { w.new ≡ with_text w.old (in_row (prefix_forms row)) }
 {
-    let n = usize::from(row.prefix_count).min(row.prefixes.len());
     put_each(
         w,
-        &row.prefixes[..n],
+        row.prefix_rows(),
         |w, k| w.put(prefix_form(usize::from(k))),
     );
 }
@@ -40,8 +39,7 @@ fn put_forms(w: &mut Writer, row: Reading)
 fn put_suffixes(w: &mut Writer, row: Reading)
     ensures { w.new ≡ with_text w.old (in_row (suffix_texts row)) }
 {
-    let n = usize::from(row.suffix_count).min(row.segments.len());
-    put_each(w, &row.segments[..n], |w, s| w.put(written_of(s)));
+    put_each(w, row.suffixes(), |w, s| w.put(written_of(s)));
 }
 
 // A reading of a word, of which the word is put together.

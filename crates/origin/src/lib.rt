@@ -1,10 +1,10 @@
 // Where a word comes from: the classification of the source's origin.rs, with how it is known and how surely.
 #![tactic(auto)]
 
-ghost use Rattle.std.specs.Prelude.{◌≡◌};
+ghost use Rattle.std.specs.Prelude.{◌≡◌, Some};
 ghost use Rattle.lookup.specs.Lexicons.{replies};
 ghost use Rattle.tables.specs.Origins.{origin_of};
-ghost use Rattle.origin.specs.Decisions.{by_mark, by_stem, decided, no_evidence, known_stem, or_by_kosha, by_marks, decision_of};
+ghost use Rattle.origin.specs.Decisions.{by_stem, decided, no_evidence, known_stem, or_by_kosha, by_marks, decision_of};
 ghost use Rattle.origin.specs.Marks.{heuristic_of};
 
 use crate::kosha::Known;
@@ -35,15 +35,22 @@ pub struct OriginDecision {
     pub confidence: f32,
 }
 
+// A decision of its parts.
+fn decided(origin: Origin, source: OriginSource, confidence: f32) -> OriginDecision
+    ensures { result ≡ decided origin source confidence }
+{
+    OriginDecision {
+        origin,
+        source,
+        confidence,
+    }
+}
+
 // The decision where nothing is known: the source's rules then take the word for Deshaj.
 fn no_evidence() -> OriginDecision
     ensures { result ≡ no_evidence }
 {
-    OriginDecision {
-        origin: Origin::Deshaj,
-        source: OriginSource::Unknown,
-        confidence: 0.0,
-    }
+    decided(Origin::Deshaj, OriginSource::Unknown, 0.0)
 }
 
 // The origin of the word in ORIGIN_TABLE, which is searched only for words that it can have.
@@ -57,24 +64,23 @@ fn listed(word: &[u8]) -> Option<Origin>
     lookup_origin(word)
 }
 
-// The decision where marks show the origin.
-fn inferred(origin: Origin) -> OriginDecision
-    ensures { result ≡ decided origin OriginSource.Heuristic by_mark }
-{
-    OriginDecision {
-        origin,
-        source: OriginSource::Heuristic,
-        confidence: 0.65,
-    }
-}
-
 // The decision by the word's marks.
 fn by_marks(word: &[u8]) -> OriginDecision
     ensures { result ≡ by_marks (heuristic_of word.now) }
 {
     match marks::classify_heuristic(word) {
         Origin::Deshaj => no_evidence(),
-        origin => inferred(origin),
+        origin => decided(origin, OriginSource::Heuristic, 0.65),
+    }
+}
+
+// The decision by what a sheet knows of a name, and how surely: its tag, or that it is a headword without one.
+fn by_kosha(known: Known, confidence: f32) -> OriginDecision
+    ensures { result ≡ or_by_kosha confidence (Some known) no_evidence }
+{
+    match known {
+        Known::Tagged(origin) => decided(origin, OriginSource::Kosha, confidence),
+        Known::Headword => no_evidence(),
     }
 }
 
@@ -83,12 +89,7 @@ fn by_stem(sheet: &Lexicon<'_>, word: &[u8]) -> OriginDecision
     ensures { result ≡ or_by_kosha by_stem (known_stem (replies sheet.now) word.now) (by_marks (heuristic_of word.now)) }
 {
     match kosha::known_stem(sheet, word) {
-        Some(Known::Tagged(origin)) => OriginDecision {
-            origin,
-            source: OriginSource::Kosha,
-            confidence: 0.90,
-        },
-        Some(Known::Headword) => no_evidence(),
+        Some(known) => by_kosha(known, 0.90),
         None => by_marks(word),
     }
 }
@@ -103,19 +104,10 @@ pub fn decide_origin(word: &[u8], sheet: &Lexicon<'_>) -> OriginDecision
         return no_evidence();
     }
     if let Some(origin) = listed(word) {
-        return OriginDecision {
-            origin,
-            source: OriginSource::Override,
-            confidence: 1.0,
-        };
+        return decided(origin, OriginSource::Override, 1.0);
     }
     match kosha::known_by(sheet, word) {
-        Some(Known::Tagged(origin)) => OriginDecision {
-            origin,
-            source: OriginSource::Kosha,
-            confidence: 0.95,
-        },
-        Some(Known::Headword) => no_evidence(),
+        Some(known) => by_kosha(known, 0.95),
         None => by_stem(sheet, word),
     }
 }

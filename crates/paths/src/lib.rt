@@ -12,14 +12,14 @@ pub const FORMS: u8 = 30;
 pub const STRIPS: u8 = 4;
 
 // The suffixes stripped so far: nearest the stem first, places that are not used are blank.
-#[derive(Clone, Copy)]
+#[derive(Clone, Copy, Default)]
 pub struct Chain {
     pub segments: [Segment; 4],
     pub count: u8,
 }
 
 // The prefix rows stripped so far: outermost first, places that are not used are 0.
-#[derive(Clone, Copy)]
+#[derive(Clone, Copy, Default)]
 pub struct Prefixes {
     pub rows: [u8; 2],
     pub count: u8,

@@ -52,6 +52,24 @@ pub struct Reading {
     pub suffix_count: u8,
 }
 
+impl Reading {
+    // The rows of its prefixes, outermost first: of the places for them, as many as it counts.
+    pub fn prefix_rows(&self) -> &[u8]
+        ensures { result.now ≡ take self.now.prefix_count self.now.prefixes }
+    {
+        let n = usize::from(self.prefix_count).min(self.prefixes.len());
+        &self.prefixes[..n]
+    }
+
+    // Its suffixes, nearest the stem first, likewise.
+    pub fn suffixes(&self) -> &[Segment]
+        ensures { result.now ≡ take self.now.suffix_count self.now.segments }
+    {
+        let n = usize::from(self.suffix_count).min(self.segments.len());
+        &self.segments[..n]
+    }
+}
+
 // A reading as it is handed out: with its root's origin, how that is known, and how surely. Here too no gap lies between the fields.
 #[derive(Clone, Copy, Default)]
 pub struct Classified {

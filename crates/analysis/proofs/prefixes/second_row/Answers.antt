@@ -10,6 +10,8 @@ use Rattle.ranking.specs.Lists.{plus_all}
 use Rattle.paths.specs.Chains.{form_of}
 use Rattle.paths.specs.Walk.{root_walk, on_left}
 use Rattle.analysis.specs.Places.{between}
+use Rattle.paths.specs.Readings.{prefixes_of}
+use Rattle.analysis.proofs.Same.{kept_same}
 use Rattle.analysis.proofs.Cuts.{asked, none_left, one_left, root_at, between-length}
 use Rattle.paths.specs.Visits.{prefix_visits}
 use Rattle.analysis.proofs.Visited.{left-none, left_one, prefix_last}
@@ -26,17 +28,8 @@ inside c =
 pub overflow_add-start : goal.overflow_add-start
 overflow_add-start c = omega (arith, inside (goal.at.overflow_add-start c).In-Some, c.args.behind.now.at.now.inside)
 
-pub slice_bounds-has_supported_progressive_form-count : goal.slice_bounds-has_supported_progressive_form-count
-slice_bounds-has_supported_progressive_form-count c = inside (goal.at.slice_bounds-has_supported_progressive_form-count c).In-Some
-
-pub slice_bounds-has_supported_progressive_form-start : goal.slice_bounds-has_supported_progressive_form-start
-slice_bounds-has_supported_progressive_form-start c = omega (arith, inside (goal.at.slice_bounds-has_supported_progressive_form-start c).In-Some, c.args.behind.now.at.now.inside)
-
-pub invariant_of-root : goal.invariant_of-root
-invariant_of-root c = record {
-  inside = inside (goal.at.invariant_of-root c).In-Some;
-  told = c.has_supported_progressive_form-progressive.ensures;
-}
+pub root_at-root-requires : goal.root_at-root-requires
+root_at-root-requires c = inside (goal.at.root_at-root-requires c).In-Some
 
 pub returns-in-None : goal.returns-in-None
 unfolding plus_all
@@ -51,6 +44,7 @@ pub returns-in-Some : goal.returns-in-Some
 returns-in-Some c =
     let a = c.args in (
       c.with_root.ensures
+          ∙ kept_same a.kept.now (prefixes_of (a.first ∷ a.second ∷ [])) c.root_at-root.ensures.0 c.root_at-root.ensures.1
           ∙ ap (plus_all a.behind.now.at.now.asked.now.word.now a.kept.now) (root_at a.behind.now.at.now.asked.now.word.now (a.behind.now.start + c.in-Some.cut) a.behind.now.at.now.end (reply a.behind.now.at.now.asked.now.sheet.now.bytes.now) a.behind.now.at.now.asked.now.surface a.behind.now.at.now.chain (a.first ∷ a.second ∷ []) (inside (goal.at.returns-in-Some c).In-Some) c.args.behind.now.at.now.inside)
           ∙ sym (ap (λ (l : List (List ℕ)). plus_all a.behind.now.at.now.asked.now.word.now a.kept.now (on_left (root_walk (reply a.behind.now.at.now.asked.now.sheet.now.bytes.now) a.behind.now.at.now.asked.now.surface a.behind.now.at.now.chain (take a.behind.now.at.now.end a.behind.now.at.now.asked.now.word.now) (a.first ∷ a.second ∷ [])) l))
           (one_left a.behind.now.at.now.asked.now.word.now a.behind.now.start a.behind.now.at.now.end (form_of a.second) c.in-Some.cut (sym c.in-Some.is ∙ (asked c.args.second (between c.args.behind.now.at.now.asked.now.word.now c.args.behind.now.start c.args.behind.now.at.now.end) _ _ c.prefix_rest-rest.ensures (c.prefix_form.ensures ∙ ap form_of c.from.ensures))))),

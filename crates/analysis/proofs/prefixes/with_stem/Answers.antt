@@ -8,10 +8,11 @@ use Rattle.paths.specs.Chains.{all_forms}
 use Rattle.sheet.specs.Replies.{reply}
 use Rattle.progressive.specs.Progressive.{is_progressive}
 use Rattle.ranking.specs.Lists.{Rows, plus_all}
-use Rattle.paths.specs.Readings.{prefixes_of}
+use Rattle.paths.specs.declared.Prefixes.{Prefixes}
 use Rattle.analysis.proofs.Visited.{prefix_none, prefix_bare, prefix_some, first-few}
 use Rattle.paths.specs.Walk.{root_walk}
 use Rattle.analysis.specs.Places.{root_found}
+use Rattle.analysis.proofs.Same.{none_stripped}
 use Rattle.analysis.proofs.Cuts.{root_at, whole-front}
 use Rattle.analysis.proofs.Turns.{stem-none, stem-bare, stem-some}
 use Rattle.analysis.proofs.Opened.{no-forms}
@@ -26,10 +27,11 @@ invariant_of-whole c = record {
 
 -- the stem's own reading is kept
 own : (c : After-with_root) {x : Rows}
-    → (let a = c.args in x ≡ plus_all a.at.now.asked.now.word.now a.kept.now (root_found (reply a.at.now.asked.now.sheet.now.bytes.now) a.at.now.asked.now.surface a.at.now.chain a.at.now.asked.now.word.now a.at.now.end 0 (prefixes_of [])))
+    → (let a = c.args in x ≡ plus_all a.at.now.asked.now.word.now a.kept.now (root_found (reply a.at.now.asked.now.sheet.now.bytes.now) a.at.now.asked.now.surface a.at.now.chain a.at.now.asked.now.word.now a.at.now.end 0 c.default.result))
     → let a = c.args in x ≡ plus_all a.at.now.asked.now.word.now a.kept.now (root_walk (reply a.at.now.asked.now.sheet.now.bytes.now) a.at.now.asked.now.surface a.at.now.chain (take a.at.now.end a.at.now.asked.now.word.now) [] (take a.at.now.end a.at.now.asked.now.word.now))
 own c e =
     e
+    ∙ ap (λ (x : Prefixes). plus_all c.args.at.now.asked.now.word.now c.args.kept.now (root_found (reply c.args.at.now.asked.now.sheet.now.bytes.now) c.args.at.now.asked.now.surface c.args.at.now.chain c.args.at.now.asked.now.word.now c.args.at.now.end 0 x)) (none_stripped c.default.result c.default.ensures)
     ∙ ap (plus_all c.args.at.now.asked.now.word.now c.args.kept.now)
     (root_at c.args.at.now.asked.now.word.now 0 c.args.at.now.end (reply c.args.at.now.asked.now.sheet.now.bytes.now) c.args.at.now.asked.now.surface c.args.at.now.chain [] (omega arith) c.args.at.now.inside
     ∙ ap (root_walk (reply c.args.at.now.asked.now.sheet.now.bytes.now) c.args.at.now.asked.now.surface c.args.at.now.chain (take c.args.at.now.end c.args.at.now.asked.now.word.now) []) (whole-front c.args.at.now.asked.now.word.now c.args.at.now.end))

@@ -4,6 +4,7 @@ use native.Mathlib.Omega.{arith}
 use borrow.Author.Tests.{leb-true}
 use lib.Dec.{leb}
 use mathlib.Core.Path.{◌≡◌, sym, ap, ◌∙◌}
+use mathlib.Core.Bool.{not}
 use mathlib.Core.List.{List, [], ◌++◌, append-nil}
 use Rattle.sheet.specs.Replies.{Reply, reply, letters_told, letters_for}
 use Rattle.sheet.specs.declared.letters.Letters.{Letters}
@@ -32,21 +33,21 @@ own : (c : After-letters_of-letters) → let a = c.args in
 unfolding letters_for
 own c = c.letters_of-letters.ensures
 
-pub returns-then-is_alone : goal.returns-then-is_alone
-returns-then-is_alone c =
+pub returns-else-not-is_alone : goal.returns-else-not-is_alone
+returns-else-not-is_alone c =
     let r = c.args.root.now in
-    let alone = sym c.is_alone.ensures ∙ c.if-is_alone.true in
+    let alone = sym c.is_alone.ensures ∙ c.if-not-is_alone.false in
     let few : c.range_of-range.result.hi ≤ c.range_of-range.result.lo + 1 = omega (arith, leb-true (c.range_of-range.result.hi - c.range_of-range.result.lo) 1 (and_left _ _ alone)) in
-    let some = has-reply _ _ (own (goal.at.returns-then-is_alone c).After-letters_of-letters) (and_right (leb (c.range_of-range.result.hi - c.range_of-range.result.lo) 1) _ alone) in
-    let e = own (goal.at.returns-then-is_alone c).After-letters_of-letters ∙ ap (λ (n : List ℕ). letters_told (reply c.args.sheet.now.bytes.now 0x77 n)) (append-nil r) in
+    let some = has-reply _ _ (own (goal.at.returns-else-not-is_alone c).After-letters_of-letters) (and_right (leb (c.range_of-range.result.hi - c.range_of-range.result.lo) 1) _ alone) in
+    let e = own (goal.at.returns-else-not-is_alone c).After-letters_of-letters ∙ ap (λ (n : List ℕ). letters_told (reply c.args.sheet.now.bytes.now 0x77 n)) (append-nil r) in
     same_support (ap (λ (x : Letters). x.word) e) (ap (λ (x : Letters). x.head) e)
-    (sym (alone_known (reply c.args.sheet.now.bytes.now) r
+    (ap not c.if-not-is_alone.false ∙ sym (alone_known (reply c.args.sheet.now.bytes.now) r
     (λ q n. alone_begun c.args.sheet.now.bytes.now 0x77 r c.args.sheet.now.starts.now c.args.sheet.now.indexed c.range_of-range.result c.range_of-range.ensures few [] q (λ z. omega (arith, n, z)) some)))
     c.requires
 
-pub returns : goal.returns
+pub returns-then-not-is_alone : goal.returns-then-not-is_alone
 unfolding letters_for
-returns c =
+returns-then-not-is_alone c =
     let e = c.letters_of-letters.ensures ∙ ap (letters_for c.args.sheet.now.bytes.now) (append-nil c.args.root.now) in
     same_support (ap (λ (x : Letters). x.word) e) (ap (λ (x : Letters). x.head) e) c.has_sibling-sibling.ensures c.requires
 

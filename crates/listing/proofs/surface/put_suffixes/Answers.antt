@@ -1,19 +1,13 @@
 -- `surface::put_suffixes` meets its contract: what is put of each element is its text. Assumes nothing.
-use Prim.Native.Nat.{ℕ}
-use native.Mathlib.Omega.{arith}
-use mathlib.Core.Path.{◌≡◌, ap, ◌∙◌}
-use mathlib.Core.List.{List}
-use lib.ListN.{length}
+use mathlib.Core.Path.{ap, ◌∙◌}
+use mathlib.Core.List.{List, map}
 use Rattle.std.proofs.Common.{rules}
 use Rattle.writing.specs.Writers.{with_text}
-use Rattle.paths.specs.Recomposed.{in_row}
-use Rattle.paths.specs.Recomposed.{written_of}
-use Rattle.listing.proofs.Parted.{counted_texts}
+use Rattle.paths.specs.Recomposed.{in_row, written_of}
+use Rattle.ranking.specs.declared.Segment.{Segment}
 use Rattle.listing.proofs.surface.put_suffixes.Goals as goal
 
 pub returns : goal.returns
 returns c =
-    let xs = c.args.row.segments in
-    let l : length xs ≡ 4 = c.well_formed.1.0.1.1.1.1.1.1.0.1.0.1 in
     c.put_each.ensures written_of (λ w x v k. search rules)
-    ∙ ap (λ (ts : List (List ℕ)). with_text c.args.w.now (in_row ts)) (counted_texts written_of xs c.min-n.result c.args.row.suffix_count (omega (arith, c.min-n.ensures, c.from.ensures, l)))
+    ∙ ap (λ (xs : List Segment). with_text c.args.w.now (in_row (map written_of xs))) c.suffixes.ensures
