@@ -16,18 +16,11 @@ returns-then-len-gt-SHEET_BYTES-clause-keeps g c =
     told_before c.write_all.result (told_now _ _ _ kept_printed 65537 (told_none _)
     (sym (long_kept c.in_ok-sheet.sheet.items (omega (arith, c.if-len-gt-SHEET_BYTES.true, c.len.ensures)))) c.in_ok-sheet.ensures kept_front)
 
-<<<<<<< HEAD
-pub returns-then-len-gt65536-clause-tells : goal.returns-then-len-gt65536-clause-tells
-returns-then-len-gt65536-clause-tells g c =
-    let e = put_whole (refused_text (numbers_of SheetTooLong)) c.new-w.ensures c.put.ensures (omega (arith, refusal_line)) (omega (arith, refusal_line)) in
-    told_of c.write_all.result _ _ _ report_told 65537 (rw (sym (c.written.ensures ∙ e)) c.write_all.ensures.bytes)
-    (sym (long_told c.in_ok-sheet.sheet.items (omega (arith, c.if-len-gt65536.true, c.len.ensures)))) c.in_ok-sheet.ensures told_front
-=======
 pub returns-then-len-gt-SHEET_BYTES-clause-tells : goal.returns-then-len-gt-SHEET_BYTES-clause-tells
 returns-then-len-gt-SHEET_BYTES-clause-tells g c =
-    told_of c.write_all.result _ _ _ report_told 65537 c.write_all.ensures.bytes
-    (sym (long_told c.in_ok-sheet.sheet.items (omega (arith, c.if-len-gt-SHEET_BYTES.true, c.len.ensures)) ∙ refusal_line)) c.in_ok-sheet.ensures told_front
->>>>>>> 83f39a0ee7c82b97e9d90ed385b600131f5e0ab4
+    let e = put_whole (refused_text (numbers_of SheetTooLong)) c.new-w.ensures c.put.ensures (omega (arith, refusal_line)) (omega (arith, refusal_line)) in
+    told_of c.write_all.result _ _ _ report_told 65537 (rw (sym (c.written.ensures ∙ e)) c.write_all.ensures.bytes)
+    (sym (long_told c.in_ok-sheet.sheet.items (omega (arith, c.if-len-gt-SHEET_BYTES.true, c.len.ensures)))) c.in_ok-sheet.ensures told_front
 
 pub returns-clause-keeps : goal.returns-clause-keeps
 returns-clause-keeps g c =
