@@ -1,5 +1,5 @@
 -- Parts of a sheet that a question's line holds, and the kind that a sheet gives a suffix. Assumes nothing.
-use Rattle.std.specs.Prelude.{ℕ, ◌+◌, ◌≤◌, ◌≡◌, true, List, [], ◌∷◌, length, take, drop, None, Option, Some}
+use Rattle.std.specs.Prelude.{ℕ, ◌+◌, ◌≤◌, ◌≡◌, List, [], ◌∷◌, length, take, drop, None, Option, Some}
 use Rattle.runs.specs.Runs.{pick, same_text}
 use Rattle.sheet.specs.Lines.{line_at}
 use Rattle.sheet.specs.Steps.{name_end}
