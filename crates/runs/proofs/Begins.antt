@@ -3,13 +3,12 @@
 use mathlib.Core.Path.{◌≡◌, refl, sym, ap, ◌∙◌}
 use mathlib.Core.Bool.{Bool, true, false, ◌&&◌}
 use mathlib.Core.List.{List, [], ◌∷◌, ◌++◌}
-use Prim.Native.Nat.{ℕ, ◌<◌}
+use Prim.Native.Nat.{ℕ, ◌<◌, ◌≤◌}
 use native.Mathlib.Omega.{arith}
-use lib.ListN.{length, drop}
-use lib.Dec.{eqb}
-use borrow.Author.Tests.{eqb-true, eq-eqb}
-use Rattle.std.specs.List.{starts_with}
-use Rattle.runs.specs.Runs.{begins_with}
+use lib.ListN.{length, drop, take}
+use lib.Dec.{eqb, leb}
+use borrow.Author.Tests.{eqb-true, eq-eqb, leb-true, leb-false}
+use Rattle.runs.specs.Runs.{same_text, begins_with}
 
 pub and_assoc : (a b c : Bool) → (a && (b && c)) ≡ ((a && b) && c)
 and_assoc true b c = refl
@@ -49,8 +48,15 @@ begins-short (x ∷ h) (y ∷ s) l = rw (begins-short h s (omega arith)) (go (eq
     go true = refl
     go false = refl
 
--- a head is the run's first bytes, as the library compares them
-pub begins_pointwise : (h s : List ℕ) → starts_with eqb s h ≡ begins_with h s
-begins_pointwise [] s = refl
-begins_pointwise (x ∷ h) [] = refl
-begins_pointwise (x ∷ h) (y ∷ s) = ap (λ (z : Bool). eqb x y && z) (begins_pointwise h s)
+-- a head is the run's first bytes, as many as it has
+begins_here : (h s : List ℕ) → length h ≤ length s → begins_with h s ≡ same_text h (take (length h) s)
+begins_here [] s l = refl
+begins_here (x ∷ h) [] l = absurd (omega arith)
+begins_here (x ∷ h) (y ∷ s) l = ap (λ (z : Bool). eqb x y && z) (begins_here h s (omega arith))
+
+pub begins_part : (h s : List ℕ) → begins_with h s ≡ (leb (length h) (length s) && same_text h (take (length h) s))
+begins_part h s = by (leb (length h) (length s)) refl
+  where
+    by : (b : Bool) → leb (length h) (length s) ≡ b → begins_with h s ≡ (b && same_text h (take (length h) s))
+    by true e = begins_here h s (leb-true _ _ e)
+    by false e = begins-short h s (leb-false _ _ e)

@@ -25,11 +25,11 @@ pub fn compare(a: &[u8], b: &[u8]) -> Ordering
 }
 
 // Whether head stands at the front of s. It takes any two runs, a head longer than s too.
-#[tactic(auto, using(crate::proofs::Begins::begins_pointwise))]
+#[tactic(auto, using(crate::proofs::Begins::begins_part))]
 pub fn begins_with(s: &[u8], head: &[u8]) -> bool
     ensures { result ≡ begins_with head.now s.now }
 {
-    s.starts_with(head)
+    head.len() <= s.len() && head == &s[..head.len()]
 }
 
 // Whether s ends in tail. It compares from the last byte on, by which texts of one script differ most.
