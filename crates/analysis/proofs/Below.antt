@@ -64,14 +64,15 @@ module _ (at p : Piece) (end k : ℕ) (kind : AffixKind) (b : Bool) (e : Strippe
 
   -- a visit of what is left, with one strip fewer to come, as the walk says it
   pub visited : {x : Rows} (y : Rows)
-      → x ≡ plus_all p.asked.now.word.now y (piece_walk (4 - p.chain.count) (reply p.asked.now.sheet.now.bytes.now) p.asked.now.surface p.chain p.rows (take p.end p.asked.now.word.now))
-      → x ≡ plus_all at.asked.now.word.now y (piece_walk (3 - at.chain.count) ask at.asked.now.surface next (rows_after k) (take end at.asked.now.word.now))
+      → x ≡ plus_all p.asked.now.word.now y (piece_walk (4 - p.chain.count) (reply p.asked.now.sheet.now.bytes.now) p.surface p.chain p.rows (take p.end p.asked.now.word.now))
+      → x ≡ plus_all at.asked.now.word.now y (piece_walk (3 - at.chain.count) ask at.surface next (rows_after k) (take end at.asked.now.word.now))
   visited {x} y h =
       h
-      ∙ ap (λ (d : ℕ). plus_all p.asked.now.word.now y (piece_walk d (reply p.asked.now.sheet.now.bytes.now) p.asked.now.surface p.chain p.rows (take p.end p.asked.now.word.now))) depth
-      ∙ ap (λ (q : Asked). plus_all q.word.now y (piece_walk (3 - at.chain.count) (reply q.sheet.now.bytes.now) q.surface p.chain p.rows (take p.end q.word.now))) e.same
-      ∙ ap (λ (c : Chain). plus_all at.asked.now.word.now y (piece_walk (3 - at.chain.count) ask at.asked.now.surface c p.rows (take p.end at.asked.now.word.now))) chained
-      ∙ ap₂ (λ (r n : ℕ). plus_all at.asked.now.word.now y (piece_walk (3 - at.chain.count) ask at.asked.now.surface next r (take n at.asked.now.word.now))) e.follows e.ends
+      ∙ ap (λ (d : ℕ). plus_all p.asked.now.word.now y (piece_walk d (reply p.asked.now.sheet.now.bytes.now) p.surface p.chain p.rows (take p.end p.asked.now.word.now))) depth
+      ∙ ap (λ (q : Asked). plus_all q.word.now y (piece_walk (3 - at.chain.count) (reply q.sheet.now.bytes.now) p.surface p.chain p.rows (take p.end q.word.now))) e.same
+      ∙ ap (λ (n : ℕ). plus_all at.asked.now.word.now y (piece_walk (3 - at.chain.count) ask n p.chain p.rows (take p.end at.asked.now.word.now))) e.counted
+      ∙ ap (λ (c : Chain). plus_all at.asked.now.word.now y (piece_walk (3 - at.chain.count) ask at.surface c p.rows (take p.end at.asked.now.word.now))) chained
+      ∙ ap₂ (λ (r n : ℕ). plus_all at.asked.now.word.now y (piece_walk (3 - at.chain.count) ask at.surface next r (take n at.asked.now.word.now))) e.follows e.ends
 
   -- and what is counted there
   pub visited_count : {v : ℕ} → v ≡ weighed (4 - p.chain.count) (reply p.asked.now.sheet.now.bytes.now) p.rows p.times (take p.end p.asked.now.word.now)

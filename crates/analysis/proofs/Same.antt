@@ -18,9 +18,9 @@ use Rattle.analysis.specs.Places.{between, root_found}
 
 module _ {p q : Piece} {m n : ℕ} where
   pub kept_same : (a : Rows) (xs : Prefixes) → p ≡ q → m ≡ n
-      → plus_all p.asked.now.word.now a (root_found (reply p.asked.now.sheet.now.bytes.now) p.asked.now.surface p.chain p.asked.now.word.now p.end m xs)
-      ≡ plus_all q.asked.now.word.now a (root_found (reply q.asked.now.sheet.now.bytes.now) q.asked.now.surface q.chain q.asked.now.word.now q.end n xs)
-  kept_same a xs e f = ap₂ (λ (r : Piece) (k : ℕ). plus_all r.asked.now.word.now a (root_found (reply r.asked.now.sheet.now.bytes.now) r.asked.now.surface r.chain r.asked.now.word.now r.end k xs)) e f
+      → plus_all p.asked.now.word.now a (root_found (reply p.asked.now.sheet.now.bytes.now) p.surface p.chain p.asked.now.word.now p.end m xs)
+      ≡ plus_all q.asked.now.word.now a (root_found (reply q.asked.now.sheet.now.bytes.now) q.surface q.chain q.asked.now.word.now q.end n xs)
+  kept_same a xs e f = ap₂ (λ (r : Piece) (k : ℕ). plus_all r.asked.now.word.now a (root_found (reply r.asked.now.sheet.now.bytes.now) r.surface r.chain r.asked.now.word.now r.end k xs)) e f
 
   pub told_same : p ≡ q → m ≡ n
       → is_progressive (reply p.asked.now.sheet.now.bytes.now) (between p.asked.now.word.now m p.end)
@@ -28,9 +28,9 @@ module _ {p q : Piece} {m n : ℕ} where
   told_same e f = ap₂ (λ (r : Piece) (k : ℕ). is_progressive (reply r.asked.now.sheet.now.bytes.now) (between r.asked.now.word.now k r.end)) e f
 
   pub forms_same : (a : Rows) (first : ℕ) → p ≡ q → m ≡ n
-      → plus_all p.asked.now.word.now a (over_forms (λ second left. root_walk (reply p.asked.now.sheet.now.bytes.now) p.asked.now.surface p.chain (take p.end p.asked.now.word.now) (first ∷ second ∷ []) left) (between p.asked.now.word.now m p.end) 0 all_forms)
-      ≡ plus_all q.asked.now.word.now a (over_forms (λ second left. root_walk (reply q.asked.now.sheet.now.bytes.now) q.asked.now.surface q.chain (take q.end q.asked.now.word.now) (first ∷ second ∷ []) left) (between q.asked.now.word.now n q.end) 0 all_forms)
-  forms_same a first e f = ap₂ (λ (r : Piece) (k : ℕ). plus_all r.asked.now.word.now a (over_forms (λ second left. root_walk (reply r.asked.now.sheet.now.bytes.now) r.asked.now.surface r.chain (take r.end r.asked.now.word.now) (first ∷ second ∷ []) left) (between r.asked.now.word.now k r.end) 0 all_forms)) e f
+      → plus_all p.asked.now.word.now a (over_forms (λ second left. root_walk (reply p.asked.now.sheet.now.bytes.now) p.surface p.chain (take p.end p.asked.now.word.now) (first ∷ second ∷ []) left) (between p.asked.now.word.now m p.end) 0 all_forms)
+      ≡ plus_all q.asked.now.word.now a (over_forms (λ second left. root_walk (reply q.asked.now.sheet.now.bytes.now) q.surface q.chain (take q.end q.asked.now.word.now) (first ∷ second ∷ []) left) (between q.asked.now.word.now n q.end) 0 all_forms)
+  forms_same a first e f = ap₂ (λ (r : Piece) (k : ℕ). plus_all r.asked.now.word.now a (over_forms (λ second left. root_walk (reply r.asked.now.sheet.now.bytes.now) r.surface r.chain (take r.end r.asked.now.word.now) (first ∷ second ∷ []) left) (between r.asked.now.word.now k r.end) 0 all_forms)) e f
 
   pub visits_same : p ≡ q → m ≡ n
       → total (λ form. total (prefix_visits 0 (reply p.asked.now.sheet.now.bytes.now)) (prefix_remainder (between p.asked.now.word.now m p.end) form)) prefix_forms

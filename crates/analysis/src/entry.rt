@@ -49,6 +49,7 @@ pub fn keep_readings(word: &[u8], sheet: &Lexicon<'_>, kept: &mut Kept) -> usize
     };
     let whole = Piece {
         asked: &asked,
+        surface: asked.surface,
         end: word.len(),
         chain: Chain {
             segments: [blank(); 4],

@@ -9,15 +9,18 @@ use lookup::asked::Asked;
 use paths::Chain;
 
 // The piece that is the word's first `end` bytes, with the suffixes stripped behind it; of it, the first `rows` rows may be stripped next.
-// So many `times` the source's strips lead to it. A piece that is a supported progressive form is never stripped.
+// So many `times` the source's strips lead to it. A piece that is a supported progressive form is never stripped. Each score adds
+// `surface`, whatever number up to 192 that is.
 #[derive(Clone, Copy)]
 pub(crate) struct Piece<'a> {
     pub asked: &'a Asked<'a>,
+    pub surface: u16,
     pub end: usize,
     pub chain: Chain,
     pub rows: u8,
     pub times: u8,
     pub progressive: bool,
+    ghost any: { surface ≤ 192 },
     ghost inside: { end ≤ length asked.now.word.now },
     ghost few: { chain.count ≤ most_strips },
     ghost table: { rows ≤ all_rows },

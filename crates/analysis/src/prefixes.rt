@@ -44,7 +44,7 @@ fn root_at<'a>(at: &'a Piece<'a>, start: usize) -> Root<'a>
 // counted.
 fn second_row(behind: &Root<'_>, first: u8, second: u8, kept: &mut Kept) -> usize
     ensures { (kept.new ≡ plus_all behind.now.at.now.asked.now.word.now kept.old
-        (on_left (root_walk (replies behind.now.at.now.asked.now.sheet.now) behind.now.at.now.asked.now.surface behind.now.at.now.chain (take behind.now.at.now.end behind.now.at.now.asked.now.word.now) (first ∷ second ∷ []))
+        (on_left (root_walk (replies behind.now.at.now.asked.now.sheet.now) behind.now.at.now.surface behind.now.at.now.chain (take behind.now.at.now.end behind.now.at.now.asked.now.word.now) (first ∷ second ∷ []))
         (prefix_remainder (between behind.now.at.now.asked.now.word.now behind.now.start behind.now.at.now.end) (form_of second))))
         × (result ≡ total (prefix_visits 0 (replies behind.now.at.now.asked.now.sheet.now)) (prefix_remainder (between behind.now.at.now.asked.now.word.now behind.now.start behind.now.at.now.end) (form_of second))) }
 {
@@ -71,7 +71,7 @@ fn second_row(behind: &Root<'_>, first: u8, second: u8, kept: &mut Kept) -> usiz
 // All rows for the second prefix, behind the first.
 fn second_rows(behind: &Root<'_>, first: u8, kept: &mut Kept) -> usize
     ensures { (kept.new ≡ plus_all behind.now.at.now.asked.now.word.now kept.old
-        (over_forms (λ second left. root_walk (replies behind.now.at.now.asked.now.sheet.now) behind.now.at.now.asked.now.surface behind.now.at.now.chain (take behind.now.at.now.end behind.now.at.now.asked.now.word.now) (first ∷ second ∷ []) left)
+        (over_forms (λ second left. root_walk (replies behind.now.at.now.asked.now.sheet.now) behind.now.at.now.surface behind.now.at.now.chain (take behind.now.at.now.end behind.now.at.now.asked.now.word.now) (first ∷ second ∷ []) left)
         (between behind.now.at.now.asked.now.word.now behind.now.start behind.now.at.now.end) 0 all_forms))
         × (result ≡ total (λ form. total (prefix_visits 0 (replies behind.now.at.now.asked.now.sheet.now)) (prefix_remainder (between behind.now.at.now.asked.now.word.now behind.now.start behind.now.at.now.end) form)) prefix_forms) }
 {
@@ -89,7 +89,7 @@ fn second_rows(behind: &Root<'_>, first: u8, kept: &mut Kept) -> usize
 // One row for the first prefix: its own reading, and, where what it leaves is no progressive form, those of a second prefix.
 fn first_row(at: &Piece<'_>, first: u8, kept: &mut Kept) -> usize
     ensures { (kept.new ≡ plus_all at.now.asked.now.word.now kept.old
-        (on_left (second_walk (replies at.now.asked.now.sheet.now) at.now.asked.now.surface at.now.chain (take at.now.end at.now.asked.now.word.now) first)
+        (on_left (second_walk (replies at.now.asked.now.sheet.now) at.now.surface at.now.chain (take at.now.end at.now.asked.now.word.now) first)
         (prefix_remainder (take at.now.end at.now.asked.now.word.now) (form_of first))))
         × (result ≡ total (prefix_visits 1 (replies at.now.asked.now.sheet.now)) (prefix_remainder (take at.now.end at.now.asked.now.word.now) (form_of first))) }
 {
@@ -117,7 +117,7 @@ fn first_row(at: &Piece<'_>, first: u8, kept: &mut Kept) -> usize
 // All rows for the first prefix.
 fn first_rows(at: &Piece<'_>, kept: &mut Kept) -> usize
     ensures { (kept.new ≡ plus_all at.now.asked.now.word.now kept.old
-        (over_forms (second_walk (replies at.now.asked.now.sheet.now) at.now.asked.now.surface at.now.chain (take at.now.end at.now.asked.now.word.now)) (take at.now.end at.now.asked.now.word.now) 0 all_forms))
+        (over_forms (second_walk (replies at.now.asked.now.sheet.now) at.now.surface at.now.chain (take at.now.end at.now.asked.now.word.now)) (take at.now.end at.now.asked.now.word.now) 0 all_forms))
         × (result ≡ total (λ form. total (prefix_visits 1 (replies at.now.asked.now.sheet.now)) (prefix_remainder (take at.now.end at.now.asked.now.word.now) form)) prefix_forms) }
 {
     let text = &at.asked.word[..at.end];
@@ -133,7 +133,7 @@ fn first_rows(at: &Piece<'_>, kept: &mut Kept) -> usize
 
 // The readings that take the piece for the stem. A supported progressive form is never stripped.
 pub(crate) fn with_stem(at: &Piece<'_>, kept: &mut Kept) -> usize
-    ensures { (kept.new ≡ plus_all at.now.asked.now.word.now kept.old (stem_walk (replies at.now.asked.now.sheet.now) at.now.asked.now.surface at.now.chain (take at.now.end at.now.asked.now.word.now)))
+    ensures { (kept.new ≡ plus_all at.now.asked.now.word.now kept.old (stem_walk (replies at.now.asked.now.sheet.now) at.now.surface at.now.chain (take at.now.end at.now.asked.now.word.now)))
         × (result ≡ prefix_visits 2 (replies at.now.asked.now.sheet.now) (take at.now.end at.now.asked.now.word.now)) }
 {
     let whole = Root {

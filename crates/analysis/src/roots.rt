@@ -15,7 +15,7 @@ use ranking::kept::Kept;
 pub(crate) fn with_root(root: &Root<'_>, prefixes: Prefixes, kept: &mut Kept)
     requires { prefixes.count ≤ most_prefixes }
     ensures { kept.new ≡ plus_all root.now.at.now.asked.now.word.now kept.old
-        (root_found (replies root.now.at.now.asked.now.sheet.now) root.now.at.now.asked.now.surface root.now.at.now.chain root.now.at.now.asked.now.word.now root.now.at.now.end root.now.start prefixes) }
+        (root_found (replies root.now.at.now.asked.now.sheet.now) root.now.at.now.surface root.now.at.now.chain root.now.at.now.asked.now.word.now root.now.at.now.end root.now.start prefixes) }
 {
     let at = root.at;
     let text = &at.asked.word[root.start..at.end];
@@ -29,7 +29,7 @@ pub(crate) fn with_root(root: &Root<'_>, prefixes: Prefixes, kept: &mut Kept)
     let reading = Reading {
         stem: at.end as u16,
         root: root.start as u16,
-        score: score(at.asked.surface, s, prefixes.count, chain.count),
+        score: score(at.surface, s, prefixes.count, chain.count),
         prefixes: rows,
         segments,
         prefix_count: prefixes.count,

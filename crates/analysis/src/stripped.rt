@@ -48,6 +48,7 @@ impl<'a> Piece<'a> {
         };
         Piece {
             asked: self.asked,
+            surface: self.surface,
             end,
             chain,
             rows: rows_after(k),

@@ -76,7 +76,7 @@ fn ends(at: &Piece<'_>, k: u8) -> bool
 #[cycle(below_visit)]
 pub(crate) fn visit(at: &Piece<'_>, kept: &mut Kept) -> usize
     ensures { (kept.new ≡ plus_all at.now.asked.now.word.now kept.old
-        (piece_walk (most_strips - at.now.chain.count) (replies at.now.asked.now.sheet.now) at.now.asked.now.surface at.now.chain at.now.rows (take at.now.end at.now.asked.now.word.now)))
+        (piece_walk (most_strips - at.now.chain.count) (replies at.now.asked.now.sheet.now) at.now.surface at.now.chain at.now.rows (take at.now.end at.now.asked.now.word.now)))
         × (result ≡ weighed (most_strips - at.now.chain.count) (replies at.now.asked.now.sheet.now) at.now.rows at.now.times (take at.now.end at.now.asked.now.word.now)) }
 {
     let each = 1 + with_stem(at, kept);
@@ -101,7 +101,7 @@ pub(crate) fn visit(at: &Piece<'_>, kept: &mut Kept) -> usize
 fn below(at: &Piece<'_>, k: u8, kept: &mut Kept) -> usize
     requires { at.now.chain.count < most_strips }
     ensures { (kept.new ≡ plus_all at.now.asked.now.word.now kept.old
-        (row_walk (piece_walk (3 - at.now.chain.count) (replies at.now.asked.now.sheet.now) at.now.asked.now.surface) (replies at.now.asked.now.sheet.now) at.now.chain (take at.now.end at.now.asked.now.word.now) k))
+        (row_walk (piece_walk (3 - at.now.chain.count) (replies at.now.asked.now.sheet.now) at.now.surface) (replies at.now.asked.now.sheet.now) at.now.chain (take at.now.end at.now.asked.now.word.now) k))
         × (result ≡ row_weighed (weighed (3 - at.now.chain.count) (replies at.now.asked.now.sheet.now)) at.now.times (take at.now.end at.now.asked.now.word.now) k) }
 {
     let rests = suffix_rests(&at.asked.word[..at.end], affix(usize::from(k)));

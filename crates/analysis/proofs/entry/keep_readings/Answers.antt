@@ -1,8 +1,9 @@
 -- `analysis::entry::keep_readings` meets its contract: the walk begins with the whole word. Assumes nothing.
-use Rattle.std.proofs.Common.{◌≡◌, ℕ, List, [], ◌∷◌, length, take, eqb, ap, ◌∙◌, arith}
+use Rattle.std.proofs.Common.{◌≡◌, ℕ, List, [], ◌∷◌, length, take, eqb, ap, sym, ◌∙◌, arith, rules}
 use lib.Seq.{take-length}
 use Rattle.runs.specs.Runs.{pick}
 use Rattle.sheet.specs.Replies.{Ask, reply}
+use Rattle.progressive.specs.Progressive.{is_progressive}
 use Rattle.ranking.specs.Lists.{Rows, plus_all}
 use Rattle.ranking.specs.declared.Segment.{Segment}
 use Rattle.ranking.specs.Stored.{no_segment}
@@ -23,6 +24,17 @@ pub invariant_of-asked : goal.invariant_of-asked
 invariant_of-asked c = record {
   short = (word-parts c.args.word.now c.requires).0;
   counted = c.count.ensures;
+}
+
+-- a word of at most 192 bytes has at most as many characters
+pub invariant_of-whole : goal.invariant_of-whole
+invariant_of-whole c = record {
+  any = omega (arith, c.count.ensures, chars_most c.args.word.now, (word-parts c.args.word.now c.requires).0);
+  inside = search rules;
+  few = search rules;
+  table = search rules;
+  twice = search rules;
+  told = c.has_supported_progressive_form.ensures ∙ ap (is_progressive (reply c.args.sheet.now.bytes.now)) (sym (take-length c.args.word.now));
 }
 
 -- the chain that the walk begins with

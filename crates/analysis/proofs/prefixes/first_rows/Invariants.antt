@@ -19,6 +19,6 @@ each word sheet stem chain surface = second_walk (reply sheet) surface chain (ta
 
 abbrev pub invariant-loop-k : goal.invariant-loop-k
 invariant-loop-k l = (l.k ≤ all_forms)
-    × (plus_all l.at.asked.now.word.now l.initial.kept (over_forms (each l.at.asked.now.word.now l.at.asked.now.sheet.now.bytes.now l.at.end l.at.chain l.at.asked.now.surface) (take l.at.end l.at.asked.now.word.now) 0 all_forms)
-    ≡ plus_all l.at.asked.now.word.now l.kept (over_forms (each l.at.asked.now.word.now l.at.asked.now.sheet.now.bytes.now l.at.end l.at.chain l.at.asked.now.surface) (take l.at.end l.at.asked.now.word.now) l.k (all_forms - l.k)))
+    × (plus_all l.at.asked.now.word.now l.initial.kept (over_forms (each l.at.asked.now.word.now l.at.asked.now.sheet.now.bytes.now l.at.end l.at.chain l.at.surface) (take l.at.end l.at.asked.now.word.now) 0 all_forms)
+    ≡ plus_all l.at.asked.now.word.now l.kept (over_forms (each l.at.asked.now.word.now l.at.asked.now.sheet.now.bytes.now l.at.end l.at.chain l.at.surface) (take l.at.end l.at.asked.now.word.now) l.k (all_forms - l.k)))
     × Counted (prefix_visits 1 (reply l.at.asked.now.sheet.now.bytes.now)) (take l.at.end l.at.asked.now.word.now) l.k l.v

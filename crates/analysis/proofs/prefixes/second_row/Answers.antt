@@ -35,7 +35,7 @@ pub returns-in-None : goal.returns-in-None
 unfolding plus_all
 returns-in-None c =
     let a = c.args in (
-      sym (ap (λ (l : List (List ℕ)). plus_all a.behind.now.at.now.asked.now.word.now a.kept.now (on_left (root_walk (reply a.behind.now.at.now.asked.now.sheet.now.bytes.now) a.behind.now.at.now.asked.now.surface a.behind.now.at.now.chain (take a.behind.now.at.now.end a.behind.now.at.now.asked.now.word.now) (a.first ∷ a.second ∷ [])) l))
+      sym (ap (λ (l : List (List ℕ)). plus_all a.behind.now.at.now.asked.now.word.now a.kept.now (on_left (root_walk (reply a.behind.now.at.now.asked.now.sheet.now.bytes.now) a.behind.now.at.now.surface a.behind.now.at.now.chain (take a.behind.now.at.now.end a.behind.now.at.now.asked.now.word.now) (a.first ∷ a.second ∷ [])) l))
           (none_left a.behind.now.at.now.asked.now.word.now a.behind.now.start a.behind.now.at.now.end (form_of a.second) (sym c.in-None.is ∙ (asked c.args.second (between c.args.behind.now.at.now.asked.now.word.now c.args.behind.now.start c.args.behind.now.at.now.end) _ _ c.prefix_rest-rest.ensures (c.prefix_form.ensures ∙ ap form_of c.from.ensures))))),
       left-none (prefix_visits 0 (reply a.behind.now.at.now.asked.now.sheet.now.bytes.now)) (between c.args.behind.now.at.now.asked.now.word.now c.args.behind.now.start c.args.behind.now.at.now.end) (form_of a.second) (none_left a.behind.now.at.now.asked.now.word.now a.behind.now.start a.behind.now.at.now.end (form_of a.second) (sym c.in-None.is ∙ (asked c.args.second (between c.args.behind.now.at.now.asked.now.word.now c.args.behind.now.start c.args.behind.now.at.now.end) _ _ c.prefix_rest-rest.ensures (c.prefix_form.ensures ∙ ap form_of c.from.ensures)))),
     )
@@ -45,8 +45,8 @@ returns-in-Some c =
     let a = c.args in (
       c.with_root.ensures
           ∙ kept_same a.kept.now (prefixes_of (a.first ∷ a.second ∷ [])) c.root_at-root.ensures.0 c.root_at-root.ensures.1
-          ∙ ap (plus_all a.behind.now.at.now.asked.now.word.now a.kept.now) (root_at a.behind.now.at.now.asked.now.word.now (a.behind.now.start + c.in-Some.cut) a.behind.now.at.now.end (reply a.behind.now.at.now.asked.now.sheet.now.bytes.now) a.behind.now.at.now.asked.now.surface a.behind.now.at.now.chain (a.first ∷ a.second ∷ []) (inside (goal.at.returns-in-Some c).In-Some) c.args.behind.now.at.now.inside)
-          ∙ sym (ap (λ (l : List (List ℕ)). plus_all a.behind.now.at.now.asked.now.word.now a.kept.now (on_left (root_walk (reply a.behind.now.at.now.asked.now.sheet.now.bytes.now) a.behind.now.at.now.asked.now.surface a.behind.now.at.now.chain (take a.behind.now.at.now.end a.behind.now.at.now.asked.now.word.now) (a.first ∷ a.second ∷ [])) l))
+          ∙ ap (plus_all a.behind.now.at.now.asked.now.word.now a.kept.now) (root_at a.behind.now.at.now.asked.now.word.now (a.behind.now.start + c.in-Some.cut) a.behind.now.at.now.end (reply a.behind.now.at.now.asked.now.sheet.now.bytes.now) a.behind.now.at.now.surface a.behind.now.at.now.chain (a.first ∷ a.second ∷ []) (inside (goal.at.returns-in-Some c).In-Some) c.args.behind.now.at.now.inside)
+          ∙ sym (ap (λ (l : List (List ℕ)). plus_all a.behind.now.at.now.asked.now.word.now a.kept.now (on_left (root_walk (reply a.behind.now.at.now.asked.now.sheet.now.bytes.now) a.behind.now.at.now.surface a.behind.now.at.now.chain (take a.behind.now.at.now.end a.behind.now.at.now.asked.now.word.now) (a.first ∷ a.second ∷ [])) l))
           (one_left a.behind.now.at.now.asked.now.word.now a.behind.now.start a.behind.now.at.now.end (form_of a.second) c.in-Some.cut (sym c.in-Some.is ∙ (asked c.args.second (between c.args.behind.now.at.now.asked.now.word.now c.args.behind.now.start c.args.behind.now.at.now.end) _ _ c.prefix_rest-rest.ensures (c.prefix_form.ensures ∙ ap form_of c.from.ensures))))),
       left_one (prefix_visits 0 (reply a.behind.now.at.now.asked.now.sheet.now.bytes.now)) (between c.args.behind.now.at.now.asked.now.word.now c.args.behind.now.start c.args.behind.now.at.now.end) (form_of a.second) _ 1
           (one_left a.behind.now.at.now.asked.now.word.now a.behind.now.start a.behind.now.at.now.end (form_of a.second) c.in-Some.cut (sym c.in-Some.is ∙ (asked c.args.second (between c.args.behind.now.at.now.asked.now.word.now c.args.behind.now.start c.args.behind.now.at.now.end) _ _ c.prefix_rest-rest.ensures (c.prefix_form.ensures ∙ ap form_of c.from.ensures)))) (prefix_last (reply a.behind.now.at.now.asked.now.sheet.now.bytes.now) _),

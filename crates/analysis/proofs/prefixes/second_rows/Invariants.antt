@@ -20,6 +20,6 @@ each word sheet stem first chain surface second left = root_walk (reply sheet) s
 
 abbrev pub invariant-loop-k : goal.invariant-loop-k
 invariant-loop-k l = (l.k ≤ all_forms)
-    × (plus_all l.behind.at.now.asked.now.word.now l.initial.kept (over_forms (each l.behind.at.now.asked.now.word.now l.behind.at.now.asked.now.sheet.now.bytes.now l.behind.at.now.end l.first l.behind.at.now.chain l.behind.at.now.asked.now.surface) (between l.behind.at.now.asked.now.word.now l.behind.start l.behind.at.now.end) 0 all_forms)
-    ≡ plus_all l.behind.at.now.asked.now.word.now l.kept (over_forms (each l.behind.at.now.asked.now.word.now l.behind.at.now.asked.now.sheet.now.bytes.now l.behind.at.now.end l.first l.behind.at.now.chain l.behind.at.now.asked.now.surface) (between l.behind.at.now.asked.now.word.now l.behind.start l.behind.at.now.end) l.k (all_forms - l.k)))
+    × (plus_all l.behind.at.now.asked.now.word.now l.initial.kept (over_forms (each l.behind.at.now.asked.now.word.now l.behind.at.now.asked.now.sheet.now.bytes.now l.behind.at.now.end l.first l.behind.at.now.chain l.behind.at.now.surface) (between l.behind.at.now.asked.now.word.now l.behind.start l.behind.at.now.end) 0 all_forms)
+    ≡ plus_all l.behind.at.now.asked.now.word.now l.kept (over_forms (each l.behind.at.now.asked.now.word.now l.behind.at.now.asked.now.sheet.now.bytes.now l.behind.at.now.end l.first l.behind.at.now.chain l.behind.at.now.surface) (between l.behind.at.now.asked.now.word.now l.behind.start l.behind.at.now.end) l.k (all_forms - l.k)))
     × Counted (prefix_visits 0 (reply l.behind.at.now.asked.now.sheet.now.bytes.now)) (between l.behind.at.now.asked.now.word.now l.behind.start l.behind.at.now.end) l.k l.v

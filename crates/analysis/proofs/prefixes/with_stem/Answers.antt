@@ -27,25 +27,25 @@ invariant_of-whole c = record {
 
 -- the stem's own reading is kept
 own : (c : After-with_root) {x : Rows}
-    → (let a = c.args in x ≡ plus_all a.at.now.asked.now.word.now a.kept.now (root_found (reply a.at.now.asked.now.sheet.now.bytes.now) a.at.now.asked.now.surface a.at.now.chain a.at.now.asked.now.word.now a.at.now.end 0 c.default.result))
-    → let a = c.args in x ≡ plus_all a.at.now.asked.now.word.now a.kept.now (root_walk (reply a.at.now.asked.now.sheet.now.bytes.now) a.at.now.asked.now.surface a.at.now.chain (take a.at.now.end a.at.now.asked.now.word.now) [] (take a.at.now.end a.at.now.asked.now.word.now))
+    → (let a = c.args in x ≡ plus_all a.at.now.asked.now.word.now a.kept.now (root_found (reply a.at.now.asked.now.sheet.now.bytes.now) a.at.now.surface a.at.now.chain a.at.now.asked.now.word.now a.at.now.end 0 c.default.result))
+    → let a = c.args in x ≡ plus_all a.at.now.asked.now.word.now a.kept.now (root_walk (reply a.at.now.asked.now.sheet.now.bytes.now) a.at.now.surface a.at.now.chain (take a.at.now.end a.at.now.asked.now.word.now) [] (take a.at.now.end a.at.now.asked.now.word.now))
 own c e =
     e
-    ∙ ap (λ (x : Prefixes). plus_all c.args.at.now.asked.now.word.now c.args.kept.now (root_found (reply c.args.at.now.asked.now.sheet.now.bytes.now) c.args.at.now.asked.now.surface c.args.at.now.chain c.args.at.now.asked.now.word.now c.args.at.now.end 0 x)) (none_stripped c.default.result c.default.ensures)
+    ∙ ap (λ (x : Prefixes). plus_all c.args.at.now.asked.now.word.now c.args.kept.now (root_found (reply c.args.at.now.asked.now.sheet.now.bytes.now) c.args.at.now.surface c.args.at.now.chain c.args.at.now.asked.now.word.now c.args.at.now.end 0 x)) (none_stripped c.default.result c.default.ensures)
     ∙ ap (plus_all c.args.at.now.asked.now.word.now c.args.kept.now)
-    (root_at c.args.at.now.asked.now.word.now 0 c.args.at.now.end (reply c.args.at.now.asked.now.sheet.now.bytes.now) c.args.at.now.asked.now.surface c.args.at.now.chain [] (omega arith) c.args.at.now.inside
-    ∙ ap (root_walk (reply c.args.at.now.asked.now.sheet.now.bytes.now) c.args.at.now.asked.now.surface c.args.at.now.chain (take c.args.at.now.end c.args.at.now.asked.now.word.now) []) (whole-front c.args.at.now.asked.now.word.now c.args.at.now.end))
+    (root_at c.args.at.now.asked.now.word.now 0 c.args.at.now.end (reply c.args.at.now.asked.now.sheet.now.bytes.now) c.args.at.now.surface c.args.at.now.chain [] (omega arith) c.args.at.now.inside
+    ∙ ap (root_walk (reply c.args.at.now.asked.now.sheet.now.bytes.now) c.args.at.now.surface c.args.at.now.chain (take c.args.at.now.end c.args.at.now.asked.now.word.now) []) (whole-front c.args.at.now.asked.now.word.now c.args.at.now.end))
 
 pub returns-then-at : goal.returns-then-at
 returns-then-at c =
-    (stem-none (reply c.args.at.now.asked.now.sheet.now.bytes.now) c.args.at.now.asked.now.surface c.args.at.now.chain c.args.at.now.asked.now.word.now (take c.args.at.now.end c.args.at.now.asked.now.word.now) _ _ (own (goal.at.returns-then-at c).After-with_root c.with_root.ensures) (sym c.args.at.now.told ∙ c.if-at.true), prefix_none 1 (reply c.args.at.now.asked.now.sheet.now.bytes.now) (take c.args.at.now.end c.args.at.now.asked.now.word.now) (sym c.args.at.now.told ∙ c.if-at.true))
+    (stem-none (reply c.args.at.now.asked.now.sheet.now.bytes.now) c.args.at.now.surface c.args.at.now.chain c.args.at.now.asked.now.word.now (take c.args.at.now.end c.args.at.now.asked.now.word.now) _ _ (own (goal.at.returns-then-at c).After-with_root c.with_root.ensures) (sym c.args.at.now.told ∙ c.if-at.true), prefix_none 1 (reply c.args.at.now.asked.now.sheet.now.bytes.now) (take c.args.at.now.end c.args.at.now.asked.now.word.now) (sym c.args.at.now.told ∙ c.if-at.true))
 
 pub slice_bounds-may_begin-end : goal.slice_bounds-may_begin-end
 slice_bounds-may_begin-end c = sym (length-take-le c.args.at.now.end c.args.at.now.asked.now.word.now c.args.at.now.inside)
 
 pub returns-then-not-may_begin : goal.returns-then-not-may_begin
 returns-then-not-may_begin c = (
-  stem-bare (reply c.args.at.now.asked.now.sheet.now.bytes.now) c.args.at.now.asked.now.surface c.args.at.now.chain c.args.at.now.asked.now.word.now (take c.args.at.now.end c.args.at.now.asked.now.word.now) _ _ (own (goal.at.returns-then-not-may_begin c).After-with_root c.with_root.ensures) (sym c.args.at.now.told ∙ c.if-at.false)
+  stem-bare (reply c.args.at.now.asked.now.sheet.now.bytes.now) c.args.at.now.surface c.args.at.now.chain c.args.at.now.asked.now.word.now (take c.args.at.now.end c.args.at.now.asked.now.word.now) _ _ (own (goal.at.returns-then-not-may_begin c).After-with_root c.with_root.ensures) (sym c.args.at.now.told ∙ c.if-at.false)
       (λ f. no-forms f (take c.args.at.now.end c.args.at.now.asked.now.word.now) (sym c.may_begin.ensures ∙ c.if-not-may_begin.true) 0 all_forms (omega arith)),
   prefix_bare 1 (reply c.args.at.now.asked.now.sheet.now.bytes.now) (take c.args.at.now.end c.args.at.now.asked.now.word.now) (sym c.may_begin.ensures ∙ c.if-not-may_begin.true),
 )
@@ -56,4 +56,4 @@ overflow_add-result c =
 
 pub returns : goal.returns
 returns c =
-    (stem-some (reply c.args.at.now.asked.now.sheet.now.bytes.now) c.args.at.now.asked.now.surface c.args.at.now.chain c.args.at.now.asked.now.word.now (take c.args.at.now.end c.args.at.now.asked.now.word.now) _ _ (own (goal.at.returns c).After-with_root c.with_root.ensures) _ (sym c.args.at.now.told ∙ c.if-at.false) c.first_rows.ensures.0, prefix_some 1 (reply c.args.at.now.asked.now.sheet.now.bytes.now) (take c.args.at.now.end c.args.at.now.asked.now.word.now) _ (sym c.args.at.now.told ∙ c.if-at.false) c.first_rows.ensures.1)
+    (stem-some (reply c.args.at.now.asked.now.sheet.now.bytes.now) c.args.at.now.surface c.args.at.now.chain c.args.at.now.asked.now.word.now (take c.args.at.now.end c.args.at.now.asked.now.word.now) _ _ (own (goal.at.returns c).After-with_root c.with_root.ensures) _ (sym c.args.at.now.told ∙ c.if-at.false) c.first_rows.ensures.0, prefix_some 1 (reply c.args.at.now.asked.now.sheet.now.bytes.now) (take c.args.at.now.end c.args.at.now.asked.now.word.now) _ (sym c.args.at.now.told ∙ c.if-at.false) c.first_rows.ensures.1)

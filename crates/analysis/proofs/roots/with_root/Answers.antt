@@ -22,17 +22,17 @@ tested c =
     ∙ supports_is (reply a.root.now.at.now.asked.now.sheet.now.bytes.now) (between a.root.now.at.now.asked.now.word.now a.root.now.start a.root.now.at.now.end)
 
 pub score-requires : goal.score-requires
-score-requires c = (few_characters c.args.root.now.at.now.asked.now, c.requires, c.args.root.now.at.now.few)
+score-requires c = (c.args.root.now.at.now.any, c.requires, c.args.root.now.at.now.few)
 
 pub returns-then-not-is_supported : goal.returns-then-not-is_supported
 returns-then-not-is_supported c =
     let a = c.args in
-    no-root (reply a.root.now.at.now.asked.now.sheet.now.bytes.now) a.root.now.at.now.asked.now.surface a.root.now.at.now.chain a.root.now.at.now.asked.now.word.now a.root.now.at.now.end a.root.now.start a.prefixes _ (sym (tested (goal.at.returns-then-not-is_supported c).After-is_supported) ∙ c.if-not-is_supported.true)
+    no-root (reply a.root.now.at.now.asked.now.sheet.now.bytes.now) a.root.now.at.now.surface a.root.now.at.now.chain a.root.now.at.now.asked.now.word.now a.root.now.at.now.end a.root.now.start a.prefixes _ (sym (tested (goal.at.returns-then-not-is_supported c).After-is_supported) ∙ c.if-not-is_supported.true)
 
 pub returns : goal.returns
 returns c =
     let a = c.args in
-    let q = c.score.ensures ∙ ap (λ (x : Support). score_from a.root.now.at.now.asked.now.surface x a.prefixes.count a.root.now.at.now.chain.count) c.support_of-s.ensures
-    ∙ score_is (reply a.root.now.at.now.asked.now.sheet.now.bytes.now) (between a.root.now.at.now.asked.now.word.now a.root.now.start a.root.now.at.now.end) a.root.now.at.now.asked.now.surface a.prefixes.count a.root.now.at.now.chain.count in
+    let q = c.score.ensures ∙ ap (λ (x : Support). score_from a.root.now.at.now.surface x a.prefixes.count a.root.now.at.now.chain.count) c.support_of-s.ensures
+    ∙ score_is (reply a.root.now.at.now.asked.now.sheet.now.bytes.now) (between a.root.now.at.now.asked.now.word.now a.root.now.start a.root.now.at.now.end) a.root.now.at.now.surface a.prefixes.count a.root.now.at.now.chain.count in
     c.add.ensures
-    ∙ one-root (reply a.root.now.at.now.asked.now.sheet.now.bytes.now) a.root.now.at.now.asked.now.surface a.root.now.at.now.chain a.root.now.at.now.asked.now.word.now a.root.now.at.now.end a.root.now.start a.prefixes _ c.score.result (sym (tested (goal.at.returns c).After-is_supported) ∙ c.if-not-is_supported.false) q
+    ∙ one-root (reply a.root.now.at.now.asked.now.sheet.now.bytes.now) a.root.now.at.now.surface a.root.now.at.now.chain a.root.now.at.now.asked.now.word.now a.root.now.at.now.end a.root.now.start a.prefixes _ c.score.result (sym (tested (goal.at.returns c).After-is_supported) ∙ c.if-not-is_supported.false) q

@@ -30,7 +30,7 @@ below-returns-in_default t c =
     let e = rests_are t (goal.at.below-returns-in_default t c).After-suffix_rests-rests in
     let l = (left_are a.asked.now.word.now a.end c.args.k a.inside _ e).none (is_none_else _ c.in_default.not-Some) in
     let p = take a.end a.asked.now.word.now in
-    (row-none a.asked.now.word.now p (piece_walk (3 - a.chain.count) (reply a.asked.now.sheet.now.bytes.now) a.asked.now.surface) (reply a.asked.now.sheet.now.bytes.now) a.chain c.args.k c.args.kept.now l.0 l.1, row_zero (weighed (3 - a.chain.count) (reply a.asked.now.sheet.now.bytes.now)) a.times p c.args.k l.0 l.1)
+    (row-none a.asked.now.word.now p (piece_walk (3 - a.chain.count) (reply a.asked.now.sheet.now.bytes.now) a.surface) (reply a.asked.now.sheet.now.bytes.now) a.chain c.args.k c.args.kept.now l.0 l.1, row_zero (weighed (3 - a.chain.count) (reply a.asked.now.sheet.now.bytes.now)) a.times p c.args.k l.0 l.1)
 
 pub below-stripped-next-requires : goal.below-stripped-next-requires
 below-stripped-next-requires t c =
@@ -55,7 +55,7 @@ below-returns-in_default-shared t c =
     let p = take a.end a.asked.now.word.now in
     let ask = reply a.asked.now.sheet.now.bytes.now in
     let s = c.stripped-next in (
-      row_plain a.asked.now.word.now p (piece_walk (3 - a.chain.count) ask a.asked.now.surface) ask a.chain k c.args.kept.now _ _ refl refl _ _ (l0 ∙ i)
+      row_plain a.asked.now.word.now p (piece_walk (3 - a.chain.count) ask a.surface) ask a.chain k c.args.kept.now _ _ refl refl _ _ (l0 ∙ i)
           (visited a s.result n k _ false s.ensures c.kind_at-kind.ensures _ c.visit-f.ensures.0) l1,
       row_one (weighed (3 - a.chain.count) ask) a.times p k _ _ refl refl _ _ (l0 ∙ i)
           (visited_count a s.result n k _ false s.ensures c.kind_at-kind.ensures c.visit-f.ensures.1) l1,
@@ -102,7 +102,7 @@ below-returns t c =
     let s = c.stripped-next in
     let h = c.stripped-other in
     let kind = c.kind_at-kind.ensures in (
-      row-both a.asked.now.word.now p (piece_walk (3 - a.chain.count) ask a.asked.now.surface) ask a.chain k c.args.kept.now _ _ refl refl _ _ (l0 ∙ i)
+      row-both a.asked.now.word.now p (piece_walk (3 - a.chain.count) ask a.surface) ask a.chain k c.args.kept.now _ _ refl refl _ _ (l0 ∙ i)
           (visited a s.result n k _ false s.ensures kind _ c.visit-f.ensures.0) _ refl _ _ (l1 ∙ j)
           (visited a h.result o k _ true h.ensures kind _ c.visit.ensures.0),
       row_two (weighed (3 - a.chain.count) ask) a.times p k _ _ refl refl _ _ (l0 ∙ i)
@@ -127,7 +127,7 @@ visit-returns-then-at t c =
     let p = take a.at.now.end a.at.now.asked.now.word.now in
     let ask = reply a.at.now.asked.now.sheet.now.bytes.now in
     let e = sym c.args.at.now.told ∙ c.if-at.true in (
-      piece-progressive a.at.now.asked.now.word.now p ask a.at.now.asked.now.surface a.at.now.chain a.at.now.rows a.kept.now _ s.ensures.0 (4 - a.at.now.chain.count) e,
+      piece-progressive a.at.now.asked.now.word.now p ask a.at.now.surface a.at.now.chain a.at.now.rows a.kept.now _ s.ensures.0 (4 - a.at.now.chain.count) e,
       piece_stopped ask a.at.now.rows a.at.now.times p _ s.ensures.1 _ (4 - a.at.now.chain.count) e c.counted.ensures.0,
     )
 
@@ -140,7 +140,7 @@ visit-returns-then-at-ge-STRIPS t c =
     let s = c.with_stem-each in
     let p = take a.at.now.end a.at.now.asked.now.word.now in
     let ask = reply a.at.now.asked.now.sheet.now.bytes.now in (
-      piece-last a.at.now.asked.now.word.now p ask a.at.now.asked.now.surface a.at.now.chain a.at.now.rows a.kept.now _ s.ensures.0 (4 - a.at.now.chain.count) (omega (arith, c.if-at-ge-STRIPS.true)),
+      piece-last a.at.now.asked.now.word.now p ask a.at.now.surface a.at.now.chain a.at.now.rows a.kept.now _ s.ensures.0 (4 - a.at.now.chain.count) (omega (arith, c.if-at-ge-STRIPS.true)),
       piece_deepest ask a.at.now.rows a.at.now.times p _ s.ensures.1 _ (4 - a.at.now.chain.count) (omega (arith, c.if-at-ge-STRIPS.true)) c.counted-then-at-ge-STRIPS.ensures.0,
     )
 
@@ -189,7 +189,7 @@ visit-loop-k-preserved t c =
     let ask = reply a.at.now.asked.now.sheet.now.bytes.now in (
       omega (arith, c.loop-k-test.true),
       l.invariant.1
-          ∙ row_turn a.at.now.asked.now.word.now p (piece_walk (3 - a.at.now.chain.count) ask a.at.now.asked.now.surface) ask a.at.now.chain l.k a.at.now.rows l.kept _ c.loop-k-test.true c.below-v.ensures.0,
+          ∙ row_turn a.at.now.asked.now.word.now p (piece_walk (3 - a.at.now.chain.count) ask a.at.now.surface) ask a.at.now.chain l.k a.at.now.rows l.kept _ c.loop-k-test.true c.below-v.ensures.0,
       turned (row_weighed (weighed (3 - a.at.now.chain.count) ask) a.at.now.times p) _ _ l.k a.at.now.rows _ c.loop-k-test.true l.invariant.2 c.below-v.ensures.1,
     )
 
@@ -201,7 +201,7 @@ visit-loop-k-preserved-then-not-ends t c =
     let ask = reply a.at.now.asked.now.sheet.now.bytes.now in
     let n = sym c.ends.ensures ∙ c.if-not-ends.true in (
       omega (arith, c.loop-k-test.true),
-      l.invariant.1 ∙ row_pass a.at.now.asked.now.word.now p (piece_walk (3 - a.at.now.chain.count) ask a.at.now.asked.now.surface) ask a.at.now.chain l.k a.at.now.rows l.kept c.loop-k-test.true n,
+      l.invariant.1 ∙ row_pass a.at.now.asked.now.word.now p (piece_walk (3 - a.at.now.chain.count) ask a.at.now.surface) ask a.at.now.chain l.k a.at.now.rows l.kept c.loop-k-test.true n,
       omega (
         arith,
         turned (row_weighed (weighed (3 - a.at.now.chain.count) ask) a.at.now.times p) _ _ l.k a.at.now.rows 0 c.loop-k-test.true l.invariant.2
@@ -217,10 +217,10 @@ visit-returns t c =
     let p = take a.at.now.end a.at.now.asked.now.word.now in
     let ask = reply a.at.now.asked.now.sheet.now.bytes.now in
     let n : 4 - a.at.now.chain.count ≡ suc (3 - a.at.now.chain.count) = omega (arith, c.if-at-ge-STRIPS.false) in (
-      sym (row-end a.at.now.asked.now.word.now p (piece_walk (3 - a.at.now.chain.count) ask a.at.now.asked.now.surface) ask a.at.now.chain l.k a.at.now.rows l.kept c.loop-k-test.false)
+      sym (row-end a.at.now.asked.now.word.now p (piece_walk (3 - a.at.now.chain.count) ask a.at.now.surface) ask a.at.now.chain l.k a.at.now.rows l.kept c.loop-k-test.false)
           ∙ sym l.invariant.1
-          ∙ piece-rows a.at.now.asked.now.word.now p ask a.at.now.asked.now.surface a.at.now.chain a.at.now.rows a.kept.now _ s.ensures.0 (3 - a.at.now.chain.count)
+          ∙ piece-rows a.at.now.asked.now.word.now p ask a.at.now.surface a.at.now.chain a.at.now.rows a.kept.now _ s.ensures.0 (3 - a.at.now.chain.count)
           (sym c.args.at.now.told ∙ c.if-at.false)
-          ∙ ap (λ (d : ℕ). plus_all a.at.now.asked.now.word.now a.kept.now (piece_walk d ask a.at.now.asked.now.surface a.at.now.chain a.at.now.rows p)) (sym n),
+          ∙ ap (λ (d : ℕ). plus_all a.at.now.asked.now.word.now a.kept.now (piece_walk d ask a.at.now.surface a.at.now.chain a.at.now.rows p)) (sym n),
       omega (arith, l.invariant.2, rows_end (row_weighed (weighed (3 - a.at.now.chain.count) ask) a.at.now.times p) l.k a.at.now.rows c.loop-k-test.false),
     )

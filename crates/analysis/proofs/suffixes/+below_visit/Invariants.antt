@@ -16,7 +16,7 @@ decreases-visit l = 2 * (4 - l.at.now.chain.count) + 1
 abbrev pub invariant-visit-loop-k : goal.invariant-visit-loop-k
 invariant-visit-loop-k l =
     (l.k ≤ l.at.rows)
-    × (plus_all l.at.asked.now.word.now l.initial.kept (rows_walk (piece_walk (3 - l.at.chain.count) (reply l.at.asked.now.sheet.now.bytes.now) l.at.asked.now.surface) (reply l.at.asked.now.sheet.now.bytes.now) l.at.chain (take l.at.end l.at.asked.now.word.now) 0 l.at.rows)
-    ≡ plus_all l.at.asked.now.word.now l.kept (rows_walk (piece_walk (3 - l.at.chain.count) (reply l.at.asked.now.sheet.now.bytes.now) l.at.asked.now.surface) (reply l.at.asked.now.sheet.now.bytes.now) l.at.chain (take l.at.end l.at.asked.now.word.now) l.k (l.at.rows - l.k)))
+    × (plus_all l.at.asked.now.word.now l.initial.kept (rows_walk (piece_walk (3 - l.at.chain.count) (reply l.at.asked.now.sheet.now.bytes.now) l.at.surface) (reply l.at.asked.now.sheet.now.bytes.now) l.at.chain (take l.at.end l.at.asked.now.word.now) 0 l.at.rows)
+    ≡ plus_all l.at.asked.now.word.now l.kept (rows_walk (piece_walk (3 - l.at.chain.count) (reply l.at.asked.now.sheet.now.bytes.now) l.at.surface) (reply l.at.asked.now.sheet.now.bytes.now) l.at.chain (take l.at.end l.at.asked.now.word.now) l.k (l.at.rows - l.k)))
     × (weighed (4 - l.at.chain.count) (reply l.at.asked.now.sheet.now.bytes.now) l.at.rows l.at.times (take l.at.end l.at.asked.now.word.now)
     ≡ l.v + total_rows (row_weighed (weighed (3 - l.at.chain.count) (reply l.at.asked.now.sheet.now.bytes.now)) l.at.times (take l.at.end l.at.asked.now.word.now)) l.k (l.at.rows - l.k))
