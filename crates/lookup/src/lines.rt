@@ -11,18 +11,40 @@ use sheet::check::SheetFault;
 use sheet::limits::{ALL_STARTS, FEW_STARTS, SHEET_BYTES, SMALL_BYTES};
 use sheet::walk::Walk;
 
+// Why a sheet is not accepted, and of how many lines before the faulty one the first byte is stored.
+#[derive(Clone, Copy)]
+pub struct Faulty {
+    pub fault: SheetFault,
+    pub lines: usize,
+}
+
+impl From<Faulty> for SheetFault {
+    ghost from_gives = { λ faulty fault. fault ≡ faulty.fault };
+
+    fn from(faulty: Faulty) -> SheetFault {
+        faulty.fault
+    }
+}
+
 // The check of a sheet, as `sheet::check::check_sheet` makes it, which gives how many lines there are. Their first bytes are stored at the
-// front of `out`, which has room for a line of every 10 bytes: of all lines, or of those before the faulty one.
-pub fn check_lines(s: &[u8], out: &mut [Start]) -> Result<usize, SheetFault>
+// front of `out`, which has room for a line of every 10 bytes: of all lines, or of those before the faulty one, whose number comes with
+// the fault.
+pub fn check_lines(s: &[u8], out: &mut [Start]) -> Result<usize, Faulty>
     requires { Room s.now out.old }
     ensures { Stored s.now out.old out.new result }
 {
     if SHEET_BYTES < s.len() {
-        return Err(SheetFault::TooLong);
+        return Err(Faulty {
+            fault: SheetFault::TooLong,
+            lines: 0,
+        });
     }
     let mut n: usize = 0;
     let mut walk = Walk { at: 0, last: None };
-    while let Some(form) = walk.step(s).map_err(|fault| fault.at(walk.at))? {
+    while let Some(form) = walk.step(s).map_err(|fault| Faulty {
+        fault: fault.at(walk.at),
+        lines: n,
+    })? {
         out[n] = walk.at as Start;
         n += 1;
         walk = form.next;

@@ -12,30 +12,48 @@ use Rattle.std.proofs.Common.{rules}
 use Rattle.std.proofs.lemmas.Result.{err_from_is_err_and}
 use Rattle.sheet.specs.declared.line.LineFault.{LineFault}
 use Rattle.sheet.specs.declared.line.LineFault.TheVariants as line
-use Rattle.sheet.proofs.Walks.{Turn, Formed, turn, faults_mapped, ok_left, check_long, check_walk}
+use Rattle.sheet.proofs.Walks.{Turn, Formed, turn, check_long, check_walk}
 use Rattle.lookup.specs.Starts.{Room}
-use Rattle.lookup.specs.Stored.{Counted, counted, stored_in, Stored}
-use Rattle.std.specs.Prelude.{Result, Ok, Err}
+use Rattle.lookup.specs.Stored.{Counted, stored_in, said_of, lines_of, Stored}
+use Rattle.lookup.specs.declared.lines.Faulty.{Faulty}
+use Rattle.std.specs.Prelude.{Result, Ok, Err, MatchResult, IsErrAnd}
 use Rattle.sheet.specs.declared.check.SheetFault.{SheetFault}
 use Rattle.sheet.specs.declared.check.SheetFault.TheVariants.{TooLong}
 use Rattle.lookup.proofs.Count.{stored-front, stored-behind, stored_far, line_next}
 use Rattle.lookup.proofs.lines.check_lines.Goals as goal
 use Rattle.lookup.proofs.lines.check_lines.Goals.{At-loop-form, In-Some, In_ok-form}
 
--- a number of lines is the same as another
-okay : {n m : ℕ} → n ≡ m → ◌≡◌ {A = Result ℕ SheetFault} (Ok n) (Ok m)
-okay e = cc
-
 -- what was said is v, with so many lines stored
-told : (s before after : List ℕ) (v : Result (Unit {0}) SheetFault) (r : Result ℕ SheetFault) (n : ℕ) → v ≡ sheet_check s → r ≡ counted v (length (starts_of s)) →
-    Counted s v n → after ≡ stored_in s n before → Stored s before after r
-told s before after v r n e f k o = record {
-  said = f ∙ ap (λ (x : Result (Unit {0}) SheetFault). counted x (length (starts_of s))) e;
-  stored = (n, subst (λ (x : Result (Unit {0}) SheetFault). Counted s x n) e k, o);
+told : (s before after : List ℕ) (v : Result (Unit {0}) SheetFault) (r : Result ℕ Faulty) → v ≡ sheet_check s → said_of r ≡ v →
+    Counted s v (lines_of r) → after ≡ stored_in s (lines_of r) before → Stored s before after r
+told s before after v r e f k o = record {
+  said = f ∙ e;
+  lines = subst (λ (x : Result (Unit {0}) SheetFault). Counted s x (lines_of r)) (sym f) k;
+  stored = o;
 }
 
+-- the faulty line's number and place, and how many lines stand before it
+abbrev faulty : LineFault → ℕ → ℕ → Faulty
+faulty e at n = record { fault = fault_at e at; lines = n }
+
+-- what `map_err` makes of a line's fault, and that it leaves all else
+module _ {A : Type 0} (at n : ℕ) (r : Result A LineFault) (Q : LineFault → Faulty → Type 0) (m : Result A Faulty) (k : MatchResult r (λ x. m ≡ Ok x) (λ e. IsErrAnd m (Q e))) where
+  mapped : ((e : LineFault) (d : Faulty) → Q e d → d ≡ faulty e at n) → (d : Faulty) → m ≡ Err d → (e : LineFault) × (r ≡ Err e) × (d ≡ faulty e at n)
+  mapped means d q = by r k
+    where
+      by : (r' : Result A LineFault) → MatchResult r' (λ x. m ≡ Ok x) (λ e. IsErrAnd m (Q e)) → (e : LineFault) × (r' ≡ Err e) × (d ≡ faulty e at n)
+      by (Ok x) h = let z : ◌≡◌ {A = ℕ} 0 1 = cc in absurd (omega arith)
+      by (Err e) h = let w : IsErrAnd {T = A} (Err d) (Q e) = subst (λ y. IsErrAnd y (Q e)) q h in (e, refl, means e d w)
+
+  left : (x : A) → m ≡ Ok x → r ≡ Ok x
+  left x q = by r k
+    where
+      by : (r' : Result A LineFault) → MatchResult r' (λ x. m ≡ Ok x) (λ e. IsErrAnd m (Q e)) → r' ≡ Ok x
+      by (Ok y) h = let e : ◌≡◌ {A = A} y x = cc in ap (λ (z : A). Ok z) e
+      by (Err e) h = absurd (subst (λ y. IsErrAnd y (Q e)) q h)
+
 pub returns-then-s-gt-SHEET_BYTES : goal.returns-then-s-gt-SHEET_BYTES
-returns-then-s-gt-SHEET_BYTES c = told c.args.s.now _ _ (Err TooLong) _ 0 (check_long _ c.if-s-gt-SHEET_BYTES.true) refl refl refl
+returns-then-s-gt-SHEET_BYTES c = told c.args.s.now _ _ (Err TooLong) _ (check_long _ c.if-s-gt-SHEET_BYTES.true) refl refl refl
 
 pub loop-form-init : goal.loop-form-init
 loop-form-init c = (omega arith, tt, check_walk _ c.if-s-gt-SHEET_BYTES.false, refl, omega arith, refl, refl)
@@ -61,14 +79,14 @@ line_at d at rest e =
 
 -- what the step gave where it refused nothing
 given : (c : In_ok-form) → Turn c.args.s.now c.loop-form.walk (Ok c.in_ok-form.field-0)
-given c = turn c.args.s.now c.loop-form.walk _ (sym (ok_left c.loop-form.walk.at c.step.result _ c.map_err.result c.map_err.ensures.cases _ c.in_ok-form.was) ∙ c.step.ensures)
+given c = turn c.args.s.now c.loop-form.walk _ (sym (left c.loop-form.walk.at c.loop-form.n c.step.result _ c.map_err.result c.map_err.ensures.cases _ c.in_ok-form.was) ∙ c.step.ensures)
 
 pub returns : goal.returns
 returns c =
     let e = subst (λ o. Turn c.args.s.now c.loop-form.walk (Ok o)) c.in_default.is (given (goal.at.returns c).In_ok-form) in
     let p : starts_of c.args.s.now ≡ take c.loop-form.n c.loop-form.out = c.loop-form.invariant.5 ∙ ap (λ (l : List ℕ). take c.loop-form.n c.loop-form.out ++ l) e.starts ∙ append-nil _ in
     let n : c.loop-form.n ≡ length (starts_of c.args.s.now) = sym (ap length p ∙ length-take-le c.loop-form.n c.loop-form.out (few (goal.at.returns c).At-loop-form)) in
-    told c.args.s.now _ _ (Ok tt) _ c.loop-form.n (sym (c.loop-form.invariant.2 ∙ e.said)) (okay n) n (stored (goal.at.returns c).At-loop-form)
+    told c.args.s.now _ _ (Ok tt) _ (sym (c.loop-form.invariant.2 ∙ e.said)) refl n (stored (goal.at.returns c).At-loop-form)
 
 pub shape_of-out : goal.shape_of-out
 shape_of-out c = c.loop-form.invariant.3
@@ -84,10 +102,11 @@ at_fault d line.NotAbove at rest e = line_at d at rest e
 pub returns-in_err-form : goal.returns-in_err-form
 returns-in_err-form c =
     let p = err_from_is_err_and c.from_residual.result c.from_residual.ensures.1 in
-    let m = faults_mapped c.loop-form.walk.at c.step.result _ c.map_err.result c.map_err.ensures.cases (λ e d k. search rules) _ c.in_err-form.was in
+    let m = mapped c.loop-form.walk.at c.loop-form.n c.step.result _ c.map_err.result c.map_err.ensures.cases (λ e d k. search rules) _ c.in_err-form.was in
     let e = turn c.args.s.now c.loop-form.walk (Err m.0) (sym m.1 ∙ c.step.ensures) in
     let d = (goal.at.returns-in_err-form c).At-loop-form in
-    told c.args.s.now _ _ (Err (fault_at m.0 c.loop-form.walk.at)) _ c.loop-form.n (sym (c.loop-form.invariant.2 ∙ e.said)) (p.1 ∙ ap (λ f. Err f) (p.2 ∙ m.2)) (at_fault d m.0 _ _ e.starts) (stored d)
+    subst (λ (r : Result ℕ Faulty). Stored c.args.s.now c.args.out.now c.loop-form.out r) (sym (p.1 ∙ ap (λ (f : Faulty). Err f) (p.2 ∙ m.2)))
+      (told c.args.s.now _ _ (Err (fault_at m.0 c.loop-form.walk.at)) (Err (faulty m.0 c.loop-form.walk.at c.loop-form.n)) (sym (c.loop-form.invariant.2 ∙ e.said)) refl (at_fault d m.0 _ _ e.starts) (stored d))
 
 -- the form that was reached
 form : (c : In-Some) → Turn c.args.s.now c.loop-form.walk (Ok c.in_ok-form.field-0) → Formed c.args.s.now c.loop-form.walk c.in-Some.form
