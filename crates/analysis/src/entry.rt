@@ -24,7 +24,7 @@ use text::word::check_word;
 
 // The list of readings, or why there is none; beside it how many pieces were visited, also where there are too many readings, and 0 where
 // word or sheet is refused.
-#[derive(Drop)]
+#[derive(Clone, Copy)]
 pub struct Analysis {
     pub list: Result<Listing, Refusal>,
     pub visits: usize,

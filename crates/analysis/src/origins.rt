@@ -4,9 +4,9 @@ ghost use Rattle.std.specs.Prelude.{◌≡◌, map};
 ghost use Rattle.lookup.specs.Lexicons.{replies};
 ghost use Rattle.paths.specs.Readings.{classified};
 
-use arrayvec::ArrayVec;
 use lookup::lexicon::Lexicon;
 use origin::decide_origin;
+use ranking::list::ArrayList;
 use ranking::{Classified, Listing, Reading, Readings, root_of, with_origin};
 
 // A reading of the word with what the sheet and the root alone decide of the root.
@@ -20,7 +20,7 @@ pub fn classify_root(word: &[u8], sheet: &Lexicon<'_>, reading: Reading) -> Clas
 pub fn classify_rows(word: &[u8], sheet: &Lexicon<'_>, rows: &Readings) -> Listing
     ensures { result.items ≡ map (classified (replies sheet.now) word.now) rows.now.items }
 {
-    let mut list = ArrayVec::new();
+    let mut list = ArrayList::new();
     for &reading in rows.as_slice() {
         list.push(classify_root(word, sheet, reading));
     }

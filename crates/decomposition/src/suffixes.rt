@@ -8,16 +8,16 @@ ghost use Rattle.decomposition.specs.Parts.{whole_stage};
 ghost use Rattle.decomposition.specs.Places.{stage_of, Held, FirstLeft, stripped_of};
 
 use crate::LABELS;
-use arrayvec::ArrayVec;
 use lookup::lexicon::Lexicon;
+use ranking::list::ArrayList;
 use strips::suffix::{Rests, bars, suffix_rests};
 use tables::suffix_rows;
 
 // A piece on the way: its first `len` bytes are left, and the labels are the rows stripped, outermost first.
-#[derive(Drop)]
+#[derive(Clone, Copy)]
 pub struct Stripped {
     pub len: usize,
-    pub labels: ArrayVec<u8, LABELS>,
+    pub labels: ArrayList<u8, LABELS>,
 }
 
 // The row of a suffix's label: ी is labelled ई.
@@ -105,7 +105,7 @@ pub(crate) fn strip_rows(sheet: &Lexicon<'_>, piece: &[u8], least: usize) -> Str
 {
     let mut s = Stripped {
         len: piece.len(),
-        labels: ArrayVec::new(),
+        labels: ArrayList::new(),
     };
     let rows = suffix_rows();
     for (k, suffix) in rows.iter().enumerate() {

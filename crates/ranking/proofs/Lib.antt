@@ -1,3 +1,4 @@
 pub mod Puts
+pub mod Cells
 pub mod Backs
 pub mod Ranked

@@ -7,3 +7,4 @@ pub mod Stored
 -- Machinery: what contracts inside say on the way. Whoever reads the promises need not read it.
 pub mod Past
 pub mod Kept
+pub mod Blanks

@@ -2,6 +2,7 @@
 #![tactic(auto)]
 
 pub mod kept;
+pub mod list;
 pub mod rows;
 pub mod scores;
 
@@ -10,7 +11,9 @@ ghost use Rattle.ranking.specs.Parts.{part};
 ghost use Rattle.ranking.specs.Rank.{stem_text, root_text, ahead_of};
 ghost use Rattle.ranking.specs.Lists.{with_origin};
 ghost use Rattle.ranking.specs.Stored.{no_segment};
+ghost use Rattle.ranking.specs.Blanks.{blank_classified};
 
+use crate::list::{ArrayList, Blank};
 use arrayvec::ArrayVec;
 use origin::{OriginDecision, OriginSource};
 use runs::compare;
@@ -79,10 +82,31 @@ pub struct Classified {
     pub confidence: f32,
 }
 
-// A word's readings in rank order, as a walk keeps them, and as they are handed out.
+// A word's readings in rank order, as a walk keeps them, and as they are handed out: a list that is copied as every other answer is.
 pub type Readings = ArrayVec<Reading, LIMIT>;
 
-pub type Listing = ArrayVec<Classified, LIMIT>;
+pub type Listing = ArrayList<Classified, LIMIT>;
+
+impl Blank for Classified {
+    ghost blank_row = { blank_classified };
+
+    fn blank_row() -> Classified {
+        Classified {
+            reading: Reading {
+                stem: 0,
+                root: 0,
+                score: 0,
+                prefixes: [0; 2],
+                segments: [blank(); 4],
+                prefix_count: 0,
+                suffix_count: 0,
+            },
+            origin: Origin::Tatsam,
+            source: OriginSource::Override,
+            confidence: 0.0,
+        }
+    }
+}
 
 // The bytes of the word from `from` to `to`, nothing where that is no place inside the word.
 pub fn part_of<'w>(word: &'w [u8], from: usize, to: usize) -> &'w [u8]

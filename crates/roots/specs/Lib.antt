@@ -5,3 +5,4 @@ pub mod Candidates
 pub mod Answers
 -- Machinery: what contracts inside say on the way. Whoever reads the promises need not read it.
 pub mod Room
+pub mod Blanks

@@ -4,12 +4,13 @@
 ghost use Rattle.std.specs.Prelude.{◌≡◌, ◌≤◌, length};
 ghost use Rattle.lookup.specs.Lexicons.{replies};
 ghost use Rattle.roots.specs.Candidates.{candidates};
+ghost use Rattle.roots.specs.Blanks.{blank_candidate};
 
 use crate::offers::{with_prefix, with_word};
-use arrayvec::ArrayVec;
-use decomposition::{Parts, decomposed};
+use decomposition::{LABELS, Parts, decomposed};
 use lookup::asked::Asked;
 use lookup::lexicon::Lexicon;
+use ranking::list::{ArrayList, Blank};
 use tables::origins::Origin;
 
 pub mod entries;
@@ -30,8 +31,28 @@ pub struct RootCandidate {
 // The most candidates of a word.
 pub const LIMIT: usize = 16;
 
-// The list of a word's candidates, in rank order.
-pub type Roots = ArrayVec<RootCandidate, LIMIT>;
+// The list of a word's candidates, in rank order, which is copied as every other answer is.
+pub type Roots = ArrayList<RootCandidate, LIMIT>;
+
+impl Blank for RootCandidate {
+    ghost blank_row = { blank_candidate };
+
+    fn blank_row() -> RootCandidate {
+        RootCandidate {
+            score: 0,
+            parts: Parts {
+                start: 0,
+                end: 0,
+                prefix: None,
+                suffix_count: 0,
+                suffixes: [0; LABELS],
+            },
+            origin: Origin::Tatsam,
+            known_word: false,
+            known_headword: false,
+        }
+    }
+}
 
 // The candidates of a word by an accepted sheet, in rank order. The word has at most 192 bytes.
 pub fn collect_candidates(word: &[u8], sheet: &Lexicon<'_>) -> Roots
@@ -43,7 +64,7 @@ pub fn collect_candidates(word: &[u8], sheet: &Lexicon<'_>) -> Roots
         sheet,
         surface: text::characters::count(word) as u16,
     };
-    let mut list = ArrayVec::new();
+    let mut list = ArrayList::new();
     with_word(&asked, decomposed(sheet, word), &mut list);
     with_prefix(&asked, &mut list);
     list
