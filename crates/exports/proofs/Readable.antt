@@ -47,7 +47,7 @@ use Rattle.roots.specs.Lists.{no_candidate}
 use Rattle.roots.specs.Answers.{roots_for}
 use Rattle.roots.specs.declared.RootCandidate.{RootCandidate}
 use Rattle.exports.specs.Codes.{coded, answered, bit, word_code, sheet_code, refusal_code, form_value, progressive_code, origin_number, source_number, origin_code}
-use Rattle.exports.specs.Read.{number_of, value_of, found_of, negative_of, main_end_of, lemma_len_of, lemma_at_of, origin_of, source_of, origin_at, source_at, row_at, has_bit, prefix_at, parts_at, candidate_at, decomposition_at}
+use Rattle.exports.specs.Read.{number_of, value_of, found_of, negative_of, main_end_of, lemma_len_of, lemma_at_of, origin_of, source_of, origin_at, source_at, row_at, has_bit, prefix_at, PrefixRead, parts_at, candidate_at, decomposition_at}
 use Rattle.exports.specs.Rows.{four_bytes, row_bytes, row_width, each, rows_filled, readings_if, readings_filled}
 use Rattle.exports.specs.Filled.{parts_bytes, morpheme_bytes, candidate_bytes, decompose_if, decompose_filled, candidates_if, candidates_filled}
 use Rattle.exports.proofs.Bounds.{SmallForm, answer_small}
@@ -165,26 +165,33 @@ origin_read d =
     let s = source_small d.source in
     (omega arith, omega arith, omega arith)
 
--- Rows of one width, of elements that their rows give back.
+-- Rows of one width, of elements of which their rows say what is read off them.
 
-module _ {A : Type 0} (width : ℕ) (bytes : A → List ℕ) (back : List ℕ → A) (d : A) (Whole : A → Type 0) (wide : (x : A) → length (bytes x) ≡ width)
-    (read : (x : A) (rest : List ℕ) → Whole x → back (bytes x ++ rest) ≡ x) where
+module _ {A : Type 0} (width : ℕ) (bytes : A → List ℕ) (Says : List ℕ → A → Type 0) (d : A) (Whole : A → Type 0)
+    (wide : (x : A) → length (bytes x) ≡ width) (read : (x : A) (rest : List ℕ) → Whole x → Says (bytes x ++ rest) x) where
   -- row i of those that stand one after the other
-  rows_read : (xs : List A) (i : ℕ) (rest : List ℕ) → Every Whole xs → i < length xs → back (drop (width * i) (each bytes xs ++ rest)) ≡ get_or xs i d
+  rows_say : (xs : List A) (i : ℕ) (rest : List ℕ) → Every Whole xs → i < length xs → Says (drop (width * i) (each bytes xs ++ rest)) (get_or xs i d)
   unfolding each
-  rows_read [] i rest h l = absurd (not-suc-le-zero l)
-  rows_read (x ∷ xs) zero rest h l =
-      ap (λ (n : ℕ). back (drop n ((bytes x ++ each bytes xs) ++ rest))) (mul-zero width)
-      ∙ ap back (append_assoc (bytes x) (each bytes xs) rest)
-      ∙ read x (each bytes xs ++ rest) h.0
-  rows_read (x ∷ xs) (suc i) rest h l =
+  rows_say [] i rest h l = absurd (not-suc-le-zero l)
+  rows_say (x ∷ xs) zero rest h l =
+      let e : bytes x ++ (each bytes xs ++ rest) ≡ drop (width * 0) ((bytes x ++ each bytes xs) ++ rest) =
+      sym (ap (λ (n : ℕ). drop n ((bytes x ++ each bytes xs) ++ rest)) (mul-zero width) ∙ append_assoc (bytes x) (each bytes xs) rest) in
+      subst (λ (ys : List ℕ). Says ys x) e (read x (each bytes xs ++ rest) h.0)
+  rows_say (x ∷ xs) (suc i) rest h l =
       let m = mul-suc width i in
       let n = wide x in
       let k : width * suc i ≡ length (bytes x) + width * i = omega arith in
-      ap (λ (ys : List ℕ). back (drop (width * suc i) ys)) (append_assoc (bytes x) (each bytes xs) rest)
-      ∙ ap (λ (n : ℕ). back (drop n (bytes x ++ (each bytes xs ++ rest)))) k
-      ∙ ap back (drop-append-add (bytes x) (each bytes xs ++ rest) (width * i))
-      ∙ rows_read xs i rest h.1 (le_of_suc-le-suc l)
+      let e : drop (width * i) (each bytes xs ++ rest) ≡ drop (width * suc i) ((bytes x ++ each bytes xs) ++ rest) =
+      sym (ap (λ (ys : List ℕ). drop (width * suc i) ys) (append_assoc (bytes x) (each bytes xs) rest)
+      ∙ ap (λ (n : ℕ). drop n (bytes x ++ (each bytes xs ++ rest))) k
+      ∙ drop-append-add (bytes x) (each bytes xs ++ rest) (width * i)) in
+      subst (λ (ys : List ℕ). Says ys (get_or xs i d)) e (rows_say xs i rest h.1 (le_of_suc-le-suc l))
+
+module _ {A : Type 0} (width : ℕ) (bytes : A → List ℕ) (back : List ℕ → A) (d : A) (Whole : A → Type 0) (wide : (x : A) → length (bytes x) ≡ width)
+    (read : (x : A) (rest : List ℕ) → Whole x → back (bytes x ++ rest) ≡ x) where
+  -- the same of elements that their rows give back
+  rows_read : (xs : List A) (i : ℕ) (rest : List ℕ) → Every Whole xs → i < length xs → back (drop (width * i) (each bytes xs ++ rest)) ≡ get_or xs i d
+  rows_read = rows_say width bytes (λ (ys : List ℕ) (x : A). back ys ≡ x) d Whole wide read
 
 origin_back : (o : Origin) → origin_at (origin_number o) ≡ o
 origin_back Tatsam = refl
@@ -271,6 +278,14 @@ prefix_back : (o : Option ℕ) → prefix_at (unwrap_or o 0) (length (prefixes_o
 prefix_back None = refl
 prefix_back (Some row) = refl
 
+-- the two bytes of the prefix
+prefix_read : (start end : ℕ) (o : Option ℕ) (rest : List ℕ) → PrefixRead (start ∷ end ∷ unwrap_or o 0 ∷ length (prefixes_of o) ∷ rest) o
+prefix_read start end None rest = (refl, refl)
+prefix_read start end (Some row) rest = (refl, refl)
+
+parts-prefix : (p : Parts) (more rest : List ℕ) → PrefixRead (parts_bytes p more ++ rest) p.prefix
+parts-prefix p more rest = prefix_read p.start p.end p.prefix (p.suffix_count ∷ ((more ++ cells 24 0 p.suffixes) ++ rest))
+
 parts-back : (p : Parts) (a b c d : ℕ) (rest : List ℕ) → Full p → parts_at (parts_bytes p (a ∷ b ∷ c ∷ d ∷ []) ++ rest) ≡ p
 parts-back p a b c d rest h = parts_is p (prefix_back p.prefix) (cells-back p.suffixes rest h)
 
@@ -281,36 +296,50 @@ candidate_is c e f g h k = rw (e, f, g, h, k)
 morpheme_is : (m : Morpheme) {p : Parts} {o : Origin} → p ≡ m.parts → o ≡ m.origin → record { parts = p; origin = o } ≡ m
 morpheme_is m e f = rw (e, f)
 
--- at the front of any bytes a candidate's row gives the candidate back
-pub candidate_read : (c : RootCandidate) (rest : List ℕ) → FullRow c → candidate_at (candidate_bytes c ++ rest) ≡ c
+-- what is read off a candidate's row
+abbrev CandidateRead : List ℕ → RootCandidate → Type 0
+CandidateRead bytes c = (candidate_at bytes ≡ c) × PrefixRead bytes c.parts.prefix
+
+-- at the front of any bytes a candidate's row gives the candidate back, and the two bytes of its prefix are that prefix's
+pub candidate_read : (c : RootCandidate) (rest : List ℕ) → FullRow c
+    → (candidate_at (candidate_bytes c ++ rest) ≡ c) × PrefixRead (candidate_bytes c ++ rest) c.parts.prefix
 candidate_read c rest h =
     let k = known_back c.known_word c.known_headword in
+    let more = origin_number c.origin ∷ (bit c.known_word + 2 * bit c.known_headword) ∷ (c.score % 256) ∷ (c.score / 256) ∷ [] in
     let p = parts-back c.parts (origin_number c.origin) (bit c.known_word + 2 * bit c.known_headword) (c.score % 256) (c.score / 256) rest h in
-    candidate_is c (two_read c.score) p (origin_back c.origin) k.0 k.1
+    (candidate_is c (two_read c.score) p (origin_back c.origin) k.0 k.1, parts-prefix c.parts more rest)
 
 -- and a decomposition's row the decomposition
-pub morpheme_read : (m : Morpheme) (rest : List ℕ) → Full m.parts → decomposition_at (morpheme_bytes m ++ rest) ≡ m
-morpheme_read m rest h = morpheme_is m (parts-back m.parts (origin_number m.origin) 0 0 0 rest h) (origin_back m.origin)
+pub morpheme_read : (m : Morpheme) (rest : List ℕ) → Full m.parts
+    → (decomposition_at (morpheme_bytes m ++ rest) ≡ m) × PrefixRead (morpheme_bytes m ++ rest) m.parts.prefix
+morpheme_read m rest h =
+    let more = origin_number m.origin ∷ 0 ∷ 0 ∷ 0 ∷ [] in
+    (morpheme_is m (parts-back m.parts (origin_number m.origin) 0 0 0 rest h) (origin_back m.origin), parts-prefix m.parts more rest)
 
--- each candidate of a list that fits in is read back from its row in the buffer
+-- each candidate of a list that fits in is read back from its row in the buffer, where the two bytes of its prefix are that prefix's
 pub candidates_read : (w s out : List ℕ) → inputs_of w s ≡ Ok tt → 33 * length (roots_for w s) ≤ length out → (i : ℕ) → i < length (roots_for w s)
-    → candidate_at (drop (33 * i) (candidates_filled w s out).buffer) ≡ get_or (roots_for w s) i no_candidate
+    → (candidate_at (drop (33 * i) (candidates_filled w s out).buffer) ≡ get_or (roots_for w s) i no_candidate)
+    × PrefixRead (drop (33 * i) (candidates_filled w s out).buffer) (get_or (roots_for w s) i no_candidate).parts.prefix
 unfolding candidates_filled
 candidates_read w s out e h i l =
     let f : rows_filled 33 candidate_bytes (roots_for w s) out ≡ candidates_if (inputs_of w s) (roots_for w s) out = ap (λ (x : Result (Unit {0}) Refusal). candidates_if x (roots_for w s) out) (sym e) in
     let b : each candidate_bytes (roots_for w s) ++ drop (33 * length (roots_for w s)) out ≡ (candidates_if (inputs_of w s) (roots_for w s) out).buffer =
     (both f (rows_long candidate_bytes 33 (length (roots_for w s)) (roots_for w s) out refl _ h refl)).1 in
-    ap (λ (xs : List ℕ). candidate_at (drop (33 * i) xs)) (sym b)
-    ∙ rows_read 33 candidate_bytes candidate_at no_candidate FullRow (λ c. refl) candidate_read
-    (roots_for w s) i (drop (33 * length (roots_for w s)) out) (roots_full w s) l
+    subst (λ (xs : List ℕ). CandidateRead (drop (33 * i) xs) (get_or (roots_for w s) i no_candidate)) b
+    (rows_say 33 candidate_bytes CandidateRead no_candidate FullRow (λ c. refl) candidate_read
+    (roots_for w s) i (drop (33 * length (roots_for w s)) out) (roots_full w s) l)
 
--- the decomposition of an accepted word and sheet is read back from a buffer that is long enough
+-- the decomposition of an accepted word and sheet is read back from a buffer that is long enough, where the two bytes of its prefix
+-- are that prefix's
 pub decomposition_read : (w s out : List ℕ) → inputs_of w s ≡ Ok tt → 33 ≤ length out
-    → Ok (decomposition_at (decompose_filled w s out).buffer) ≡ morpheme_answer w s
+    → (Ok (decomposition_at (decompose_filled w s out).buffer) ≡ morpheme_answer w s)
+    × PrefixRead (decompose_filled w s out).buffer (morpheme_of (reply s) w).parts.prefix
 unfolding decompose_filled morpheme_answer
 decomposition_read w s out e h =
     let m = morpheme_of (reply s) w in
     let f : decompose_if (Ok m) out ≡ decompose_if (morpheme_if (inputs_of w s) w s) out = ap (λ (x : Result (Unit {0}) Refusal). decompose_if (morpheme_if x w s) out) (sym e) in
     let b : morpheme_bytes m ++ drop 33 out ≡ (decompose_if (morpheme_if (inputs_of w s) w s) out).buffer = (both f (stored_long 0 (morpheme_bytes m) out _ h refl)).1 in
-    ap (λ (xs : List ℕ). Ok (decomposition_at xs)) (sym b) ∙ ap (λ (x : Morpheme). Ok x) (morpheme_read m (drop 33 out) (morpheme_full (reply s) w))
-    ∙ ap (λ (x : Result (Unit {0}) Refusal). morpheme_if x w s) (sym e)
+    let r = morpheme_read m (drop 33 out) (morpheme_full (reply s) w) in (
+      ap (λ (xs : List ℕ). Ok (decomposition_at xs)) (sym b) ∙ ap (λ (x : Morpheme). Ok x) r.0 ∙ ap (λ (x : Result (Unit {0}) Refusal). morpheme_if x w s) (sym e),
+      subst (λ (xs : List ℕ). PrefixRead xs m.parts.prefix) b r.1,
+    )

@@ -1,7 +1,7 @@
 -- How a caller reads what the static library's functions give, as the C header does: shifts and masks of a code are quotients and
 -- remainders by powers of 2, and a row of bytes is a reading with its root's origin (its first 22 bytes: `ranking/specs/Stored.reading_at`), a candidate or a
 -- decomposition. Assumes nothing.
-use Rattle.std.specs.Prelude.{ℕ, ◌+◌, ◌*◌, ◌/◌, ◌%◌, Bool, List, [], ◌∷◌, take, drop, get_or, eqb, ltb, None, Option, Some}
+use Rattle.std.specs.Prelude.{ℕ, ◌+◌, ◌*◌, ◌/◌, ◌%◌, ◌≡◌, Bool, List, [], ◌∷◌, take, drop, get_or, eqb, ltb, None, Option, Some}
 use Rattle.runs.specs.Runs.{pick}
 use Rattle.tables.specs.declared.origins.Origin.{Origin}
 use Rattle.tables.specs.declared.origins.Origin.TheVariants.{Tatsam, Tadbhav, Deshaj, Aagantuk}
@@ -75,12 +75,24 @@ has_bit power byte = ltb 0 (byte / power % 2)
 abbrev pub prefix_at : ℕ → ℕ → Option ℕ
 prefix_at row count = pick (eqb count 0) None (Some row)
 
+-- of the parts whose row stands at the front: the prefix row and the count of prefixes, the bytes `prefix` and `prefix_count`
+abbrev pub prefix_row_at : List ℕ → ℕ
+prefix_row_at bytes = get_or bytes 2 0
+
+abbrev pub prefix_count_at : List ℕ → ℕ
+prefix_count_at bytes = get_or bytes 3 0
+
+-- what the two bytes are: of no prefix a row of 0 and a count of 0, of a prefix its row and a count of 1
+abbrev pub PrefixRead : List ℕ → Option ℕ → Type 0
+PrefixRead bytes None = (prefix_row_at bytes ≡ 0) × (prefix_count_at bytes ≡ 0)
+PrefixRead bytes (Some row) = (prefix_row_at bytes ≡ row) × (prefix_count_at bytes ≡ 1)
+
 -- the parts whose row stands at the front: five bytes, and the 24 places for suffix rows from byte 9 on
 abbrev pub parts_at : List ℕ → Parts
 parts_at bytes = record {
   start = get_or bytes 0 0;
   end = get_or bytes 1 0;
-  prefix = prefix_at (get_or bytes 2 0) (get_or bytes 3 0);
+  prefix = prefix_at (prefix_row_at bytes) (prefix_count_at bytes);
   suffix_count = get_or bytes 4 0;
   suffixes = take 24 (drop 9 bytes);
 }

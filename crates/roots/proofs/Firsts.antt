@@ -1,10 +1,10 @@
 -- Laws of the answers that are made of the list of candidates. The proofs of `best_root` and `has_known_root` cite these. Assumes
 -- nothing.
-use Rattle.std.specs.Prelude.{Bool, Option, Err, Ok, Result, slice_get}
+use Rattle.std.specs.Prelude.{Bool, Option, Some, None, Err, Ok, Result, slice_get}
 use Rattle.std.specs.Option.{is_some as o_is_some}
 use Rattle.refusals.specs.declared.Refusal.{Refusal}
 use Prim.Native.Nat.{ℕ}
-use mathlib.Core.Path.{◌≡◌, refl, ◌∙◌}
+use mathlib.Core.Path.{◌≡◌, refl, sym, ap, ◌∙◌}
 use mathlib.Core.List.{List, [], ◌∷◌}
 use Rattle.arrayvec.specs.ArrayVec.{ArrayVec}
 use Rattle.sheet.specs.Inputs.{inputs_of, numbers_given, lowest_numbers}
@@ -29,6 +29,13 @@ module _ (w s : List ℕ) where
       by : (i : Result (Unit {0}) Refusal) → best_for (roots_by i (roots_for w s)) ≡ best_in i (roots_for w s)
       by (Ok _) = refl
       by (Err r) = refl
+
+  -- where the list is given, its first candidate is the best root; where it is empty, there is none
+  pub some_best : (l : ArrayVec RootCandidate) (c : RootCandidate) (ys : List RootCandidate) → Ok l ≡ roots_answer w s → l.items ≡ c ∷ ys → Ok (Some c) ≡ best_answer w s
+  some_best l c ys e f = ap (λ (xs : List RootCandidate). Ok (slice_get xs 0)) (sym f) ∙ ap best_for e ∙ best_given
+
+  pub none_best : (l : ArrayVec RootCandidate) → Ok l ≡ roots_answer w s → l.items ≡ [] → Ok None ≡ best_answer w s
+  none_best l e f = ap (λ (xs : List RootCandidate). Ok (slice_get xs 0)) (sym f) ∙ ap best_for e ∙ best_given
 
   pub known_given : known_for (best_answer w s) ≡ known_answer w s
   unfolding best_answer known_answer
