@@ -1,6 +1,7 @@
 -- What an entry gives: the refusal of word or sheet with nothing visited, or what the walk has collected; and what an answer says. The
 -- proofs of the entries and of those above them cite these. Assumes nothing.
 use Prim.Native.Nat.{ℕ}
+use mathlib.Core.Bool.{Bool}
 use mathlib.Core.Path.{◌≡◌, refl, sym, ap, ap₂, ◌∙◌}
 use mathlib.Core.List.{List, [], ◌∷◌}
 use Rattle.std.specs.Prelude.{Err, Ok, Result, Option, None, Some, slice_get}
@@ -8,10 +9,12 @@ use Rattle.std.specs.Option.{is_some as o_is_some}
 use Rattle.arrayvec.specs.ArrayVec.{ArrayVec}
 use Rattle.refusals.specs.declared.Refusal.{Refusal}
 use Rattle.sheet.specs.Inputs.{inputs_of}
-use Rattle.sheet.specs.Replies.{reply}
+use Rattle.sheet.specs.Replies.{Ask, reply}
+use Rattle.ranking.specs.Lists.{rows}
+use Rattle.ranking.specs.declared.Reading.{Reading}
 use Rattle.ranking.specs.declared.Classified.{Classified}
 use Rattle.paths.specs.Visits.{visits_of}
-use Rattle.analysis.specs.Answers.{collected, listed_rows, said_by, rows_by, said_of, rows_given, answer_by, answer_of, list_of, visits_by, visits_given, visits_in, visits_answer, best_by, best_of, is_some, has_by, has_of}
+use Rattle.analysis.specs.Answers.{collected, listed_rows, said_by, rows_by, said_of, rows_given, answer_by, answer_of, list_of, visits_by, visits_given, visits_in, visits_answer, best_by, best_of, is_some, has_by, has_kept, has_of}
 
 module _ (w s : List ℕ) (list : Result (ArrayVec Classified) Refusal) (visits : ℕ) where
   abbrev pub Given : Type 0
@@ -82,6 +85,15 @@ module _ (w s : List ℕ) where
       by (Ok _) rs e = cc
       by (Err q) rs e = cc
 
+  -- whether there is one, of what the walk has collected
+  pub has_told : (r : Refusal) → inputs_of w s ≡ Err r → Err r ≡ has_of w s
+  unfolding has_of said_of rows_given
+  has_told r e = ap (λ (i : Result (Unit {0}) Refusal). has_by (said_by i (collected w s)) (is_some (rows_by i (listed_rows (reply s) w (collected w s))))) (sym e)
+
+  pub has_asked : inputs_of w s ≡ Ok tt → has_kept (reply s) w (collected w s) ≡ has_of w s
+  unfolding has_of said_of rows_given
+  has_asked e = ap (λ (i : Result (Unit {0}) Refusal). has_by (said_by i (collected w s)) (is_some (rows_by i (listed_rows (reply s) w (collected w s))))) (sym e)
+
   -- the number of pieces visited
   pub visits_refused : (r : Refusal) → inputs_of w s ≡ Err r → Err r ≡ visits_answer w s
   unfolding visits_answer
@@ -90,3 +102,8 @@ module _ (w s : List ℕ) where
   pub visits_counted : inputs_of w s ≡ Ok tt → Ok (visits_of (reply s) w) ≡ visits_answer w s
   unfolding visits_answer
   visits_counted e = ap (λ (i : Result (Unit {0}) Refusal). visits_in i (visits_of (reply s) w)) (sym e)
+
+-- rows that are kept are rows that are given
+pub kept_some : (ask : Ask) (w : List ℕ) (rs : List Reading) → ◌≡◌ {A = Result Bool Refusal} (Ok (o_is_some (slice_get rs 0))) (has_kept ask w (rows rs))
+kept_some ask w [] = refl
+kept_some ask w (r ∷ rs) = refl

@@ -95,6 +95,10 @@ abbrev pub has_by : Result (Unit {0}) Refusal → Bool → Result Bool Refusal
 has_by (Ok _) b = Ok b
 has_by (Err r) b = Err r
 
+-- of what the walk has collected alone
+abbrev pub has_kept : Ask → List ℕ → Rows → Result Bool Refusal
+has_kept ask w c = has_by (by_rows c) (is_some (listed_rows ask w c))
+
 unfoldable pub has_of : List ℕ → List ℕ → Result Bool Refusal
 has_of w s = has_by (said_of w s) (is_some (rows_given w s))
 

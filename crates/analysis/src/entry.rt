@@ -7,7 +7,7 @@ ghost use Rattle.lookup.specs.Lexicons.{replies};
 ghost use Rattle.ranking.specs.Lists.{plus_all};
 ghost use Rattle.paths.specs.Visits.{visits_of};
 ghost use Rattle.paths.specs.Walk.{word_walk};
-ghost use Rattle.analysis.specs.Answers.{collected, list_of, answer_of, visits_given, visits_answer, best_of, has_of};
+ghost use Rattle.analysis.specs.Answers.{collected, list_of, answer_of, visits_given, visits_answer, best_of, has_kept, has_of};
 
 use crate::origins::classify_rows;
 use crate::piece::Piece;
@@ -119,11 +119,25 @@ pub fn best_analysis(word: &[u8], sheet: &[u8]) -> Result<Option<Classified>, Re
     Ok(list.as_slice().first().copied())
 }
 
+// Whether there is a reading, where word and sheet are accepted: no list is made for it.
+fn has_in(word: &[u8], sheet: &Lexicon<'_>) -> Result<bool, Refusal>
+    requires { word_check word.now ≡ Ok tt }
+    ensures { result ≡ has_kept (replies sheet.now) word.now (collected word.now sheet.now.bytes.now) }
+{
+    let mut kept = Kept::new();
+    keep_readings(word, sheet, &mut kept);
+    match kept.rows() {
+        None => Err(Refusal::TooManyReadings),
+        Some(rows) => Ok(rows.as_slice().first().is_some()),
+    }
+}
+
 // Whether the word has a reading.
 pub fn has_supported_analysis(word: &[u8], sheet: &[u8]) -> Result<bool, Refusal>
     ensures { result ≡ has_of word.now sheet.now }
 {
-    Ok(best_analysis(word, sheet)?.is_some())
+    check_word(word)?;
+    with_lexicon(sheet, |lexicon| has_in(word, lexicon))?
 }
 
 // The pieces visited alone, where word and sheet are accepted.
