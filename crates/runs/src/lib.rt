@@ -1,5 +1,7 @@
 // Runs of bytes compared in place: equal, in order, at the front, at the end.
-// Nothing is copied and nothing is joined. Every crate above compares texts by these alone.
+// Nothing is copied and nothing is joined. The crates above compare texts by these, but for three places: `sheet::keys` compares a name with
+// a question in two parts byte by byte, and `tables::origins` and `roots::order` compare texts of the tables by the library's order, which is
+// the one of `compare` (`proofs/Ordered.compared`).
 #![tactic(auto)]
 
 ghost use Rattle.std.specs.Prelude.{◌≡◌, ◌+◌, ◌≤◌, length};

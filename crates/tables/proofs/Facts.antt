@@ -13,7 +13,9 @@ use Rattle.text.specs.Utf8.{is_utf8, run, after, opened, utf8_char, within}
 use Rattle.text.specs.Characters.{chars, opens}
 use Rattle.tables.specs.Rows.{prefix_labels, prefix_forms, plural_markers, case_markers, particles, suffixes, strip_suffixes, origin_words, origin_tags}
 use Rattle.tables.specs.Tables.{affixes, is_ii}
+use Rattle.runs.specs.Runs.{cmp}
 use Rattle.runs.proofs.Begins.{and_left, and_right}
+use Rattle.runs.proofs.Ordered.{compared}
 use Rattle.tables.proofs.Tested.{every, at}
 use Rattle.tables.proofs.Listed.{ascending, ascends, stand}
 
@@ -122,8 +124,11 @@ pub origin_ascending : ascending origin_words ≡ true
 unfolding origin_words
 origin_ascending = refl
 
-pub origin_ascends : (i j : ℕ) → i < j → j < 79 → stand (get_or origin_words i []) (get_or origin_words j []) ≡ Less
-origin_ascends i j l h = ascends origin_words origin_ascending i j l (rw origin_word_count h)
+pub origin_stands : (i j : ℕ) → i < j → j < 79 → stand (get_or origin_words i []) (get_or origin_words j []) ≡ Less
+origin_stands i j l h = ascends origin_words origin_ascending i j l (rw origin_word_count h)
+
+pub origin_ascends : (i j : ℕ) → i < j → j < 79 → cmp (get_or origin_words i []) (get_or origin_words j []) ≡ Less
+origin_ascends i j l h = sym (compared (get_or origin_words i []) (get_or origin_words j [])) ∙ origin_stands i j l h
 
 -- Rows of one character.
 

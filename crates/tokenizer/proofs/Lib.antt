@@ -1,4 +1,5 @@
 pub mod Parted
+pub mod Masks
 pub mod Looks
 pub mod Turns
 pub mod Answered

@@ -1,5 +1,5 @@
 -- Which characters part, stretch by stretch: in each stretch the two lists of ranges are the few ranges that the code names, by computed
--- tests. The proofs of parting.rt and `look` cite these. Assumes nothing.
+-- tests. The proofs of parting.rt and `look` cite these. And any stretch that no range reaches, which they don't need. Assumes nothing.
 use Prim.Native.Nat.{ℕ, zero, suc, ◌+◌, ◌-◌, ◌/◌, ◌^◌, ◌≤◌, ◌<◌}
 use native.Mathlib.Omega.{arith}
 use mathlib.Core.Path.{◌≡◌, refl, sym, ◌∙◌}
@@ -8,9 +8,10 @@ use mathlib.Core.Bool.{Bool, true, false, ◌&&◌, ◌||◌}
 use mathlib.Core.List.{List, [], ◌∷◌}
 use lib.Dec.{ltb, leb, eqb}
 use lib.Bits.{bit_and}
-use borrow.Author.Tests.{leb-true, le-ltb}
+use borrow.Author.Tests.{ltb-true, leb-true, le-ltb}
 use Rattle.std.proofs.lemmas.Bool.{agree_below_at, and_parts, or_cases, cases_eq}
 use Rattle.text.specs.Utf8.{Range, within}
+use Rattle.text.proofs.Ranges.{below, above}
 use Rattle.tokenizer.specs.Marks.{general}
 use Rattle.tokenizer.specs.Parting.{one, among, white_space, punctuation, parts}
 
@@ -90,3 +91,21 @@ high = one 0x205F ∷ one 0x3000 ∷ []
 pub high_marks : (c : ℕ) → 0x2040 ≤ c → c < 0x100000000 → parts c ≡ among high c
 unfolding parts among within white_space punctuation
 high_marks c h k = stretch 0x2040 0xFFFFFFFF high refl refl refl c h (omega arith)
+
+-- no range reaches into the stretch from lo to hi
+abbrev pub clear : ℕ → ℕ → List Range → Bool
+clear lo hi [] = true
+clear lo hi (r ∷ rs) = (ltb r.high lo || ltb hi r.low) && clear lo hi rs
+
+none-among : (lo hi c : ℕ) (rs : List Range) → clear lo hi rs ≡ true → lo ≤ c → c ≤ hi → among rs c ≡ false
+unfolding among
+none-among lo hi c [] e h k = refl
+none-among lo hi c (r ∷ rs) e h k =
+    let p = and_parts (ltb r.high lo || ltb hi r.low) (clear lo hi rs) e in
+    let out : within r c ≡ false = ⊎_elim (λ q. let l = ltb-true r.high lo q in above r c (omega arith)) (λ q. let l = ltb-true hi r.low q in below r c (omega arith))
+    (or_cases (ltb r.high lo) (ltb hi r.low) p.0) in
+    rw out (none-among lo hi c rs p.1 h k)
+
+pub gap : (lo hi c : ℕ) → clear lo hi white_space ≡ true → clear lo hi punctuation ≡ true → lo ≤ c → c ≤ hi → parts c ≡ false
+unfolding parts
+gap lo hi c w p h k = rw (none-among lo hi c white_space w h k) (none-among lo hi c punctuation p h k)
