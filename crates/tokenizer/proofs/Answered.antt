@@ -157,3 +157,8 @@ module _ (s old : List ℕ) where
 
   pub refused : {f : Refusal} → Err f ≡ pass_of s → (Err f ≡ tokenized s (length old)) × (old ≡ listed s old)
   refused {f} e = let t = pass_told (Err f) e in (t, left_by_lem s old (Err f) t)
+
+-- too long a text is told so by the pass
+pub pass_long : (s : List ℕ) → ltb text_limit (length s) ≡ true → pass_of s ≡ Err TextTooLong
+unfolding pass_of
+pass_long s e = ap (λ (b : Bool). pick b (Err TextTooLong) (ok_or (counted s) TextNotUtf8)) e

@@ -2,8 +2,12 @@
 -- Assumes nothing.
 use Rattle.std.proofs.Common.{arith, sym, ◌∙◌}
 use Rattle.std.proofs.lemmas.Result.{err_from_is_err_and}
-use Rattle.tokenizer.proofs.Answered.{pass_told, refused, short, all, all_copied, walked_back}
+use Rattle.tokenizer.proofs.Answered.{pass_told, pass_long, refused, short, all, all_copied, walked_back}
+use borrow.Author.Tests.{lt-ltb}
 use Rattle.tokenizer.proofs.tokenize.Goals as goal
+
+pub returns-then-text-gt65536 : goal.returns-then-text-gt65536
+returns-then-text-gt65536 c = refused c.args.text.now c.args.list.now (sym (pass_long c.args.text.now (lt-ltb _ _ c.if-text-gt65536.true)))
 
 pub returns-in_err-count : goal.returns-in_err-count
 returns-in_err-count c =
