@@ -125,11 +125,11 @@ fn has_in(word: &[u8], sheet: &Lexicon<'_>) -> Result<bool, Refusal>
     ensures { result ≡ has_kept (replies sheet.now) word.now (collected word.now sheet.now.bytes.now) }
 {
     let mut kept = Kept::new();
-    keep_readings(word, sheet, &mut kept);
-    match kept.rows() {
-        None => Err(Refusal::TooManyReadings),
-        Some(rows) => Ok(rows.as_slice().first().is_some()),
-    }
+    let _ = keep_readings(word, sheet, &mut kept);
+    let Some(rows) = kept.rows() else {
+        return Err(Refusal::TooManyReadings);
+    };
+    Ok(rows.as_slice().first().is_some())
 }
 
 // Whether the word has a reading.

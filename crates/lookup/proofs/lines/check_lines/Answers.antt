@@ -106,7 +106,7 @@ returns-in_err-form c =
     let e = turn c.args.s.now c.loop-form.walk (Err m.0) (sym m.1 ∙ c.step.ensures) in
     let d = (goal.at.returns-in_err-form c).At-loop-form in
     subst (λ (r : Result ℕ Faulty). Stored c.args.s.now c.args.out.now c.loop-form.out r) (sym (p.1 ∙ ap (λ (f : Faulty). Err f) (p.2 ∙ m.2)))
-      (told c.args.s.now _ _ (Err (fault_at m.0 c.loop-form.walk.at)) (Err (faulty m.0 c.loop-form.walk.at c.loop-form.n)) (sym (c.loop-form.invariant.2 ∙ e.said)) refl (at_fault d m.0 _ _ e.starts) (stored d))
+    (told c.args.s.now _ _ (Err (fault_at m.0 c.loop-form.walk.at)) (Err (faulty m.0 c.loop-form.walk.at c.loop-form.n)) (sym (c.loop-form.invariant.2 ∙ e.said)) refl (at_fault d m.0 _ _ e.starts) (stored d))
 
 -- the form that was reached
 form : (c : In-Some) → Turn c.args.s.now c.loop-form.walk (Ok c.in_ok-form.field-0) → Formed c.args.s.now c.loop-form.walk c.in-Some.form
