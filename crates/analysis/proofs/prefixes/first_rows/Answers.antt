@@ -1,13 +1,11 @@
 -- `analysis::prefixes::first_rows` meets its contract: what all rows add is what those to come add to what has been collected. Assumes nothing.
 use native.Mathlib.Omega.{arith}
-use mathlib.Core.Path.{refl, sym, ap, ◌∙◌}
+use mathlib.Core.Path.{refl, sym, ◌∙◌}
 use lib.ListN.{take}
 use Rattle.paths.specs.Visits.{prefix_visits}
 use Rattle.analysis.proofs.Visited.{visits_turn, visits_pass, visits_end, first-few}
 use Rattle.sheet.specs.Replies.{reply}
-use Rattle.runs.specs.Runs.{begins_with}
-use Rattle.paths.specs.Chains.{all_forms, form_of}
-use Rattle.analysis.proofs.Cuts.{whole-front}
+use Rattle.paths.specs.Chains.{all_forms}
 use Rattle.analysis.proofs.Turns.{form_turn, form_pass, form-end}
 use Rattle.analysis.proofs.prefixes.first_rows.Invariants.{each}
 use Rattle.analysis.proofs.prefixes.first_rows.Goals as goal

@@ -7,7 +7,6 @@ use Rattle.analysis.specs.Places.{between}
 use Rattle.analysis.specs.Supports.{supports, score_from}
 use Rattle.analysis.specs.declared.support.Support.{Support}
 use Rattle.analysis.proofs.Supported.{supports_is, score_is}
-use Rattle.analysis.proofs.Accepted.{few_characters}
 use Rattle.analysis.proofs.Added.{no-root, one-root}
 use Rattle.analysis.proofs.roots.with_root.Goals as goal
 use Rattle.analysis.proofs.roots.with_root.Goals.{After-is_supported}
