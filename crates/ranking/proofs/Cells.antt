@@ -1,5 +1,5 @@
 -- Cells of which the first are rows and all others are blank. The proofs of `list` cite these. Assumes nothing.
-use Rattle.std.proofs.Common.{◌≡◌, ℕ, ◌+◌, ◌-◌, ◌≤◌, ◌<◌, List, [], ◌∷◌, ◌++◌, length, take, drop, replicate, refl, sym, ap, ◌∙◌, arith, drop-drop, length-take-le, take-append-drop}
+use Rattle.std.proofs.Common.{◌≡◌, ℕ, ◌+◌, ◌-◌, ◌≤◌, List, ◌++◌, length, take, drop, replicate, sym, ap, ◌∙◌, arith, drop-drop, length-take-le, take-append-drop}
 use Rattle.std.proofs.lemmas.List.{drop-replicate}
 
 module _ {T : Type 0} where

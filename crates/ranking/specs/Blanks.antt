@@ -1,5 +1,5 @@
 -- What stands in the cells of a list that no row is in. Assumes nothing.
-use Rattle.std.specs.Prelude.{ℕ, [], ◌∷◌}
+use Rattle.std.specs.Prelude.{[], ◌∷◌}
 use Rattle.tables.specs.declared.origins.Origin.TheVariants.{Tatsam}
 use Rattle.origin.specs.Decisions.{none}
 use Rattle.origin.specs.declared.OriginSource.TheVariants.{Override}

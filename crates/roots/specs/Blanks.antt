@@ -1,5 +1,5 @@
 -- What stands in the cells of a list that no candidate is in. Assumes nothing.
-use Rattle.std.specs.Prelude.{ℕ, None, false, replicate}
+use Rattle.std.specs.Prelude.{None, false, replicate}
 use Rattle.tables.specs.declared.origins.Origin.TheVariants.{Tatsam}
 use Rattle.roots.specs.declared.RootCandidate.{RootCandidate}
 

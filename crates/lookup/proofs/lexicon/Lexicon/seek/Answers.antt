@@ -1,5 +1,5 @@
 -- `search::seek` meets its contract: the line at which the search stops is the question's. Assumes nothing.
-use Rattle.std.proofs.Common.{rules, arith, ◌≡◌, ◌∙◌, sym, ◌++◌, length, get_or}
+use Rattle.std.proofs.Common.{rules, arith, ◌∙◌, sym, ◌++◌, length}
 use Rattle.sheet.specs.Forms.{key_of}
 use Rattle.lookup.proofs.Settled.{indexed_up, stops_in, indexed_few, sought_placed}
 use Rattle.lookup.proofs.Edges.{placed}

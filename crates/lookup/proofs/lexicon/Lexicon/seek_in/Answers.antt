@@ -1,6 +1,6 @@
 -- `begins::seek_in` meets its contract: forms that begin so stand at the lines that are asked, and the line at which the search stops is
 -- the question's. Assumes nothing.
-use Rattle.std.proofs.Common.{rules, arith, ◌≡◌, ◌∙◌, sym, ◌++◌, get_or}
+use Rattle.std.proofs.Common.{rules, arith, ◌∙◌, sym, ◌++◌}
 use Rattle.sheet.specs.Forms.{key_of}
 use Rattle.lookup.proofs.Settled.{indexed_up, stops_in, sought_placed}
 use Rattle.lookup.proofs.Begun.{asked_below, asked_above}

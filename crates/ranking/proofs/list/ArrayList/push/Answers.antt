@@ -1,6 +1,6 @@
 -- `List::push` meets its contract: one cell more is a row, and those behind it are blank as before. Assumes nothing.
 use Rattle.std.proofs.Common.{◌∙◌, ◌+◌, arith, length-set, drop-set-lt, rules}
-use Rattle.ranking.proofs.Cells.{blank_rest, shortened}
+use Rattle.ranking.proofs.Cells.{blank_rest}
 use Rattle.ranking.proofs.list.ArrayList.push.Goals as goal
 
 pub invariant_of-self : goal.invariant_of-self
