@@ -1,4 +1,5 @@
 -- `analysis::roots::with_root` meets its contract: the root's support decides, and its reading is kept. Assumes nothing.
+use native.Mathlib.Omega.{arith}
 use mathlib.Core.Path.{◌≡◌, sym, ap, ◌∙◌}
 use lib.ListN.{length}
 use Rattle.sheet.specs.Replies.{reply}
@@ -21,7 +22,9 @@ tested c =
     ∙ supports_is (reply a.root.now.at.now.asked.now.sheet.now.bytes.now) (between a.root.now.at.now.asked.now.word.now a.root.now.start a.root.now.at.now.end)
 
 pub score-requires : goal.score-requires
-score-requires c = (c.args.root.now.at.now.any, c.requires, c.args.root.now.at.now.few)
+score-requires c =
+    let at = c.args.root.now.at.now in
+    (omega (arith, at.any, at.inside, at.asked.now.short), c.requires, at.few)
 
 pub returns-then-not-is_supported : goal.returns-then-not-is_supported
 returns-then-not-is_supported c =
