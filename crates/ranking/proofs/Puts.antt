@@ -49,7 +49,7 @@ module _ (w : List ℕ) (r : Reading) where
     unfolding plus
     plus_full e = rw e
 
-    pub plus-room : (at : ℕ) (later : List Reading) → length xs < list_limit → at ≡ position_or_len (ahead_of w r) xs → later ≡ insert xs at r
+    pub plus-room : {at : ℕ} (later : List Reading) → length xs < list_limit → later ≡ insert xs at r → at ≡ position_or_len (ahead_of w r) xs
         → rows later ≡ plus w (rows xs) r
     unfolding plus
-    plus-room at later h p q = rw (lt-ltb (length xs) list_limit h, q, p, ranked-put w r xs)
+    plus-room later h q p = rw (lt-ltb (length xs) list_limit h, q, p, ranked-put w r xs)

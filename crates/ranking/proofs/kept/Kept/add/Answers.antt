@@ -23,9 +23,11 @@ returns-then-is_full c =
 pub returns-else-is_full : goal.returns-else-is_full
 returns-else-is_full c =
     let a = c.args in
-    let h : length c.in-Some.rows.items < list_limit = search (rules, tests) in
-    plus-room a.word.now a.r c.in-Some.rows.items c.place-at.result c.insert.new.self.items h
-    (c.place-at.ensures ∙ ap (position_or_len (ahead_of a.word.now a.r)) c.as_slice.ensures.value) c.insert.ensures.items
+    let xs = c.in-Some.rows.items in
+    let first = ahead_of a.word.now a.r in
+    let h : length xs < list_limit = search (rules, tests) in
+    let p = c.place-at.ensures ∙ ap (position_or_len first) c.as_slice.ensures.value in
+    plus-room a.word.now a.r xs c.insert.new.self.items h c.insert.ensures.items (omega (arith, p, place_fits first xs))
     ∙ ap (λ (x : Rows). plus a.word.now x a.r) (sym (ap kept_rows c.in-Some.is) ∙ c.self.view_is)
 
 pub returns-in_default : goal.returns-in_default
